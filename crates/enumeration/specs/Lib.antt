@@ -1,0 +1,10 @@
+pub mod Blanks
+pub mod Waiting
+pub mod Waits
+pub mod Tables
+pub mod Sound
+pub mod Changes
+pub mod Advancing
+pub mod Taking
+pub mod Filling
+pub mod Writes

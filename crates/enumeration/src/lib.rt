@@ -1,0 +1,13 @@
+// The records that the resolver's tables hold, the order of candidates, and the theory of finding tracks rank by rank.
+mod records;
+mod waiting;
+
+pub use records::Back;
+pub use records::Candidate;
+pub use records::Extent;
+pub use records::Place;
+pub use records::Rank;
+pub use records::Ranked;
+pub use records::Station;
+pub use waiting::CandidateOrdered;
+pub use waiting::extension;

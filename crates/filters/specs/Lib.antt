@@ -1,0 +1,4 @@
+pub mod Envelopes
+pub mod Turning
+pub mod Tallies
+pub mod Cases

@@ -1,0 +1,11 @@
+pub mod Outs
+pub mod Laws
+pub mod Fields
+pub mod Basics
+pub mod Parts
+pub mod Refusing
+pub mod Whole
+pub mod Tabled
+pub mod Entering
+pub mod Many
+pub mod Steps

@@ -1,0 +1,11 @@
+pub mod Questions
+pub mod Contents
+pub mod Bytes
+pub mod Layout
+pub mod Refusals
+pub mod Reading
+pub mod Resolved
+pub mod Rows
+pub mod Jobs
+pub mod Views
+pub mod Outcomes

@@ -1,0 +1,11 @@
+pub mod Ranked
+pub mod Numbers
+pub mod Laws
+pub mod Sorting
+pub mod Peeled
+pub mod Forward
+pub mod Merging
+pub mod Endings
+pub mod Merged
+pub mod Ends
+pub mod Examples

@@ -1,0 +1,11 @@
+pub mod Copies
+pub mod Rungs
+mod Slices
+mod Blocks
+mod Appending
+mod Heaps
+mod Entering
+mod Drawing
+mod Pending
+mod Descent
+pub mod Premises

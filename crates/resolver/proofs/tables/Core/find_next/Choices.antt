@@ -1,0 +1,5 @@
+use Rattle.resolver.specs.Bounds.{Bounds, Same}
+use Rattle.resolver.proofs.tables.Core.find_next.Given as given
+
+abbrev pub Inv-loop-i : given.InvT-loop-i
+Inv-loop-i g l = Bounds (l .self) × Same (l .entry .self) (l .self)

@@ -1,0 +1,23 @@
+use native.Mathlib.Omega.{arith}
+use mathlib.Core.Path.{sym}
+use Rattle.resolver.specs.Standing.{ladder-in}
+use Rattle.resolver.proofs.tables.Core.open.Needs as need
+
+pub returns : need.returns
+unfolding ladder-in
+returns g c =
+    let f = c .fitted-rung-limit .ensures in
+    record {
+      bounds = record {
+        shoulder = omega arith;
+        elbow = omega arith;
+        limited = f .roomy .limited;
+        rationed = f .roomy .rationed;
+        held = omega arith;
+        drawn = omega arith;
+        stations = f .roomy .stations;
+        ranked = f .roomy .ranked;
+        candidates = f .roomy .candidates;
+      };
+      opens = sym (f .opens (c .args .limits));
+    }

@@ -1,0 +1,5 @@
+pub mod Answers
+pub mod Bounds
+pub mod Tables
+pub mod Standing
+pub mod Effects

@@ -1,0 +1,6 @@
+mod Products
+mod Nearness
+mod Scans
+mod Shown
+mod Rising
+mod Offered
