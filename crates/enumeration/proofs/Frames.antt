@@ -1,8 +1,8 @@
 -- What stays sound where the tables t become the tables m. Assumes nothing.
-use mathlib.Core.Path.{_≡_, refl, sym, ap, subst, _∙_}
+use mathlib.Core.Path.{_≡_, refl, sym, ap, _∙_}
 use mathlib.Core.Bool.{Bool, true, false, cond}
 use mathlib.Core.Logic.{_⊎_, inl, inr}
-use mathlib.Core.List.{List, [], _∷_}
+use mathlib.Core.List.{[], _∷_}
 use Prim.Native.Nat.{ℕ, zero, suc, _+_, _-_, _<_, _≤_}
 use native.Mathlib.Omega.{arith}
 use lib.ListN.{length, getD, take}
@@ -12,15 +12,13 @@ use Rattle.std.proofs.shelf.Elements.{all-weaker}
 use Rattle.std.proofs.shelf.Tests.{cases-eq}
 use Rattle.ladder.specs.declared.poses.Limits.{Limits}
 use Rattle.ladder.specs.Rules.{Rules}
-use Rattle.ladder.specs.Tracks.{Rung, Ladder, Track, origin, cost}
+use Rattle.ladder.specs.Tracks.{origin, cost}
 use Rattle.ladder.specs.Ranking.{ending}
 use Rattle.enumeration.specs.declared.records.Station.{Station}
 use Rattle.enumeration.specs.declared.records.Ranked.{Ranked}
-use Rattle.enumeration.specs.declared.records.Back.{Back}
-use Rattle.enumeration.specs.declared.records.Candidate.{Candidate}
 use Rattle.enumeration.specs.Tables.{Tables, poses, ladder}
 use Rattle.enumeration.specs.Waits.{Found-so-far, only-at, nowhere}
-use Rattle.enumeration.specs.Sound.{Lies, last-back, due-at, ends, Extends, Holds, Candidates-sound, Sourced, Pose-sound, Rung-sound}
+use Rattle.enumeration.specs.Sound.{Lies, last-back, due-at, Extends, Holds, Candidates-sound, Sourced, Pose-sound, Rung-sound}
 use Rattle.enumeration.specs.Changes.{linked, Elsewhere, Unchanged, Block-kept}
 
 -- ---- the ladder
@@ -88,7 +86,7 @@ module _ {C : Type 0} (t m : Tables C) where
 -- ---- what stays sound
 
 module _ {C P : Type 0} (c : Rules C P) (l : Limits) (t m : Tables C) where
-  -- what a track extends, whereever it leads
+  -- what a track extends, wherever it leads
   pub extends-kept : (r : ℕ) → Poses-kept t m (suc r) → Lies-before t m r → (x : Ranked C) (i : ℕ) → Extends c l t r x → Extends c l m r (linked x i)
   extends-kept zero p below x i h = tt
   extends-kept (suc q) p below x i h =

@@ -1,7 +1,14 @@
 pub mod Orders
 pub mod Waits
 pub mod Frames
+pub mod Appending
+pub mod Entering
+pub mod Drawing
+pub mod Advancing
 pub mod Heads
 pub mod Taking
 pub mod Reading
 pub mod Climbing
+pub mod Partly
+pub mod Firsts
+pub mod Filling

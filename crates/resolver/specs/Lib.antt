@@ -3,3 +3,4 @@ pub mod Bounds
 pub mod Tables
 pub mod Standing
 pub mod Effects
+pub mod Finding

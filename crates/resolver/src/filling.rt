@@ -86,7 +86,7 @@ impl<'t, C: Cost> Core<'t, C> {
     }
 
     // Appends a rung of these poses.
-    pub fn append_rung(&mut self, poses: &[Pose]) -> usize
+    pub(crate) fn append_rung(&mut self, poses: &[Pose]) -> usize
         requires { ⌜ Bounds (now self) ⌝ ∗ ⌜ now self .rungs < now self .«rung_limit» ⌝ ∗ ⌜ length (now poses) ≤ 16 ⌝ }
         ensures bounds { λ _. ⌜ Bounds (now (self .exit)) ⌝ }
         ensures count { λ n. ⌜ (n ≡ now (self .entry) .rungs + 1) × (now (self .exit) .rungs ≡ n) ⌝ }

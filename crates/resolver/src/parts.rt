@@ -29,7 +29,7 @@ fn draw<T: Ordered>(slots: &mut [T], len: usize) -> Option<T>
 }
 
 // Puts x into the heap in the places a to b of a table.
-pub fn enter_part<T: Ordered>(table: &mut [T], a: usize, b: usize, len: usize, x: T) -> usize
+pub(crate) fn enter_part<T: Ordered>(table: &mut [T], a: usize, b: usize, len: usize, x: T) -> usize
     requires { ⌜ a ≤ b ⌝ ∗ ⌜ b ≤ length (now table) ⌝ ∗ ⌜ len ≤ b - a ⌝ }
     ensures fits { λ r. ⌜ r ≤ b - a ⌝ }
     ensures below { λ _. ⌜ take a (now (table .exit)) ≡ take a (now (table .entry)) ⌝ }
@@ -40,7 +40,7 @@ pub fn enter_part<T: Ordered>(table: &mut [T], a: usize, b: usize, len: usize, x
 }
 
 // Takes the least of the heap in the places a to b of a table.
-pub fn draw_part<T: Ordered>(table: &mut [T], a: usize, b: usize, len: usize) -> Option<T>
+pub(crate) fn draw_part<T: Ordered>(table: &mut [T], a: usize, b: usize, len: usize) -> Option<T>
     requires { ⌜ a ≤ b ⌝ ∗ ⌜ b ≤ length (now table) ⌝ ∗ ⌜ len ≤ b - a ⌝ }
     ensures below { λ _. ⌜ take a (now (table .exit)) ≡ take a (now (table .entry)) ⌝ }
     ensures above { λ _. ⌜ drop b (now (table .exit)) ≡ drop b (now (table .entry)) ⌝ }

@@ -48,7 +48,7 @@ impl<'t, C: Cost> Core<'t, C> {
     }
 
     // Enters the track at a place of the rung before as a candidate at pose v of rung r, where the move is admissible.
-    pub fn enter(&mut self, r: usize, v: PoseNumber, at: Place)
+    pub(crate) fn enter(&mut self, r: usize, v: PoseNumber, at: Place)
         requires { ⌜ Bounds (now self) ⌝ ∗ ⌜ r < now self .«rung_limit» ⌝ ∗ ⌜ 0 < r ⌝ }
         ensures bounds { λ _. ⌜ Bounds (now (self .exit)) ⌝ }
         ensures same { λ _. ⌜ Same (now (self .entry)) (now (self .exit)) ⌝ }
@@ -99,7 +99,7 @@ impl<'t, C: Cost> Core<'t, C> {
     }
 
     // Appends the track that candidate x stands for as the next rank at pose v of rung r, whose station is s.
-    pub fn append(&mut self, r: usize, v: PoseNumber, s: Station, x: Candidate<C>)
+    pub(crate) fn append(&mut self, r: usize, v: PoseNumber, s: Station, x: Candidate<C>)
         requires { ⌜ Bounds (now self) ⌝ ∗ ⌜ r < now self .«rung_limit» ⌝ }
         ensures bounds { λ _. ⌜ Bounds (now (self .exit)) ⌝ }
         ensures same { λ _. ⌜ Same (now (self .entry)) (now (self .exit)) ⌝ }
@@ -118,7 +118,7 @@ impl<'t, C: Cost> Core<'t, C> {
     }
 
     // Draws the least candidate of pose v of rung r as its next rank; where none waits the pose has no further rank.
-    pub fn draw(&mut self, r: usize, v: PoseNumber)
+    pub(crate) fn draw(&mut self, r: usize, v: PoseNumber)
         requires { ⌜ Bounds (now self) ⌝ ∗ ⌜ r < now self .«rung_limit» ⌝ }
         ensures bounds { λ _. ⌜ Bounds (now (self .exit)) ⌝ }
         ensures same { λ _. ⌜ Same (now (self .entry)) (now (self .exit)) ⌝ }
@@ -220,7 +220,7 @@ impl<'t, C: Cost> Core<'t, C> {
     }
 
     // Finds the next rank at pose v of rung r, and before it what it needs on the rungs before.
-    pub fn find_next(&mut self, r: usize, v: PoseNumber)
+    pub(crate) fn find_next(&mut self, r: usize, v: PoseNumber)
         requires { ⌜ Bounds (now self) ⌝ ∗ ⌜ r < now self .«rung_limit» ⌝ }
         ensures bounds { λ _. ⌜ Bounds (now (self .exit)) ⌝ }
         ensures same { λ _. ⌜ Same (now (self .entry)) (now (self .exit)) ⌝ }

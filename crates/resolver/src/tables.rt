@@ -43,7 +43,7 @@ fn read<T: Copy>(xs: &[T], i: usize) -> T
 // The numbers that the tables hold are brought into range before they are used as places, so that no access leaves its table whatever they are.
 impl<'t, C: Cost> Core<'t, C> {
     // Where pose v of rung r stands.
-    pub fn station_place(&self, r: usize, v: PoseNumber) -> usize
+    pub(crate) fn station_place(&self, r: usize, v: PoseNumber) -> usize
         requires { ⌜ Bounds (now self) ⌝ ∗ ⌜ r < now self .«rung_limit» ⌝ }
         ensures low { λ i. ⌜ 16 * r ≤ i ⌝ }
         ensures high { λ i. ⌜ i < 16 * r + 16 ⌝ }
@@ -53,7 +53,7 @@ impl<'t, C: Cost> Core<'t, C> {
     }
 
     // Where a place of rung r's ranked block lies.
-    pub fn ranked_place(&self, r: usize, at: Place) -> usize
+    pub(crate) fn ranked_place(&self, r: usize, at: Place) -> usize
         requires { ⌜ Bounds (now self) ⌝ ∗ ⌜ r < now self .«rung_limit» ⌝ }
         ensures within { λ i. ⌜ i < length (now (now (self .entry) .ranked)) ⌝ }
         ensures is { λ i. ⌜ (at .0 < 16 + now (self .entry) .ration → i ≡ (16 + now (self .entry) .ration) * r + at .0) ⌝ }
@@ -63,7 +63,7 @@ impl<'t, C: Cost> Core<'t, C> {
     }
 
     // Pose v of rung r.
-    pub fn station(&self, r: usize, v: PoseNumber) -> Station
+    pub(crate) fn station(&self, r: usize, v: PoseNumber) -> Station
         requires { ⌜ Bounds (now self) ⌝ ∗ ⌜ r < now self .«rung_limit» ⌝ }
         ensures { λ s. ⌜ (v .0 < 16 → s ≡ station-at (now (self .entry)) r (v .0)) ⌝ }
     {
@@ -72,7 +72,7 @@ impl<'t, C: Cost> Core<'t, C> {
     }
 
     // The track at a place of rung r's ranked block.
-    pub fn track(&self, r: usize, at: Place) -> Ranked<C>
+    pub(crate) fn track(&self, r: usize, at: Place) -> Ranked<C>
         requires { ⌜ Bounds (now self) ⌝ ∗ ⌜ r < now self .«rung_limit» ⌝ }
         ensures { λ e. ⌜ (at .0 < 16 + now (self .entry) .ration → e ≡ track-at (now (self .entry)) (C·Cost .rules) r (at .0)) ⌝ }
     {
@@ -81,7 +81,7 @@ impl<'t, C: Cost> Core<'t, C> {
     }
 
     // Writes pose v of rung r.
-    pub fn put_station(&mut self, r: usize, v: PoseNumber, s: Station)
+    pub(crate) fn put_station(&mut self, r: usize, v: PoseNumber, s: Station)
         requires { ⌜ Bounds (now self) ⌝ ∗ ⌜ r < now self .«rung_limit» ⌝ }
         ensures bounds { λ _. ⌜ Bounds (now (self .exit)) ⌝ }
         ensures same { λ _. ⌜ Same (now (self .entry)) (now (self .exit)) ⌝ }
@@ -92,7 +92,7 @@ impl<'t, C: Cost> Core<'t, C> {
     }
 
     // Writes the track at a place of rung r's ranked block.
-    pub fn put_track(&mut self, r: usize, at: Place, e: Ranked<C>)
+    pub(crate) fn put_track(&mut self, r: usize, at: Place, e: Ranked<C>)
         requires { ⌜ Bounds (now self) ⌝ ∗ ⌜ r < now self .«rung_limit» ⌝ }
         ensures bounds { λ _. ⌜ Bounds (now (self .exit)) ⌝ }
         ensures same { λ _. ⌜ Same (now (self .entry)) (now (self .exit)) ⌝ }

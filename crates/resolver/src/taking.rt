@@ -91,7 +91,7 @@ impl<'t, C: Cost> Core<'t, C> {
     }
 
     // Takes the next track of the list, and writes its steps; none where the list is at its end.
-    pub fn take_next(&mut self, out: &mut [Step]) -> Option<Taken<C>>
+    pub(crate) fn take_next(&mut self, out: &mut [Step]) -> Option<Taken<C>>
         requires { ⌜ Bounds (now self) ⌝ ∗ ⌜ now self .taken < now self .ration ⌝ ∗ ⌜ now self .rungs ≤ length (now out) ⌝ }
         ensures bounds { λ _. ⌜ Bounds (now (self .exit)) ⌝ }
     {
