@@ -135,7 +135,7 @@ module _ {C P : Type 0} (c : Rules C P) (laws : Lawful c) (l : Limits) (b : Boun
   cases-of false f g = g refl
 
   -- nothing is needed: the pending successor is found
-  none-needed : (t : Tables C) (r v : ℕ) → needed-at t r v ≡ None → t .station r v .pending ≡ true → Ready c l t r v
+  pub none-needed : (t : Tables C) (r v : ℕ) → needed-at t r v ≡ None → t .station r v .pending ≡ true → Ready c l t r v
   none-needed t zero v e pending = tt
   none-needed t (suc p) v e pending = cases-of (successor-found t p v)
       (λ f. inl (ltb-true _ _ f))

@@ -31,12 +31,13 @@ pub data Answer : Type 0 where
   refused : ℕ → Answer
 
 -- the number of a refusal
-abbrev pub number : Refusal → ℕ
-number LowAboveHigh = 16
+abbrev pub refusal-number : Refusal → ℕ
+refusal-number LowAboveHigh = 16
 
+-- what a making answered, where an envelope stands for its spans
 abbrev pub made : {E : Type 0} → (E → Span × Span) → Result E Refusal → Answer
 made spans (Ok e) = envelope (spans e)
-made spans (Err x) = refused (number x)
+made spans (Err x) = refused (refusal-number x)
 
 -- two spans whose lows are at most their highs are made an envelope, and others are refused
 abbrev pub due : Span → Span → Answer

@@ -29,6 +29,7 @@ opposites [] = 0
 opposites (a ∷ []) = 0
 opposites (a ∷ (b ∷ cs)) = cond (opposite a b) 1 0 + opposites (b ∷ cs)
 
+-- the shoulder's counts
 abbrev pub shoulders : List Step → List ℤ
 shoulders steps = map (λ p. p .pose .shoulder) steps
 

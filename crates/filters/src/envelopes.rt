@@ -1,7 +1,7 @@
 // A filter by the counts that each joint may have.
 ghost use mathlib.Core.Path.{_≡_};
 ghost use lib.Signed.{_≤ℤ_};
-ghost use Rattle.filters.specs.Envelopes.{within, both-within, keeps-within, made, due};
+ghost use Rattle.filters.specs.Envelopes.{within, both-within, keeps-within, refusal-number, made, due};
 use crate::judging::Filter;
 use ladder::poses::Pose;
 use ladder::poses::Step;
@@ -13,10 +13,30 @@ pub struct Span {
     pub high: i16,
 }
 
+impl Span {
+    // Whether a count lies within the span.
+    pub fn holds(self, count: i16) -> bool
+        ensures { λ r. ⌜ r ≡ within self count ⌝ }
+    {
+        self.low <= count && count <= self.high
+    }
+}
+
 // Why an envelope is not made: a low end lies above its high end.
 #[derive(Clone, Copy)]
 pub enum Refusal {
     LowAboveHigh,
+}
+
+impl Refusal {
+    // The number by which a refusal is reported.
+    pub fn number(self) -> u8
+        ensures { λ r. ⌜ r ≡ refusal-number self ⌝ }
+    {
+        match self {
+            Refusal::LowAboveHigh => 16,
+        }
+    }
 }
 
 // Passes the steps whose shoulders and elbows all lie within their spans. No span runs backward.
@@ -41,18 +61,7 @@ impl Envelope {
         }
         Ok(Envelope { shoulder, elbow })
     }
-}
 
-impl Span {
-    // Whether a count lies within the span.
-    pub fn holds(self, count: i16) -> bool
-        ensures { λ r. ⌜ r ≡ within self count ⌝ }
-    {
-        self.low <= count && count <= self.high
-    }
-}
-
-impl Envelope {
     // Whether both joints of a pose lie within their spans.
     pub fn holds(&self, pose: Pose) -> bool
         ensures { λ r. ⌜ r ≡ both-within (now (self .entry) .shoulder) (now (self .entry) .elbow) pose ⌝ }

@@ -37,7 +37,7 @@ fn opposes(a: i32, b: i32) -> bool
 }
 
 impl Tally {
-    // The shoulder goes on to another count: a turn may be a reversal of the last, and no turn is none.
+    // The shoulder goes on to another count. A turn of 0 is dropped, and any other counts if it is opposite to the last.
     fn go_on(&mut self, shoulder: i16)
         requires { ⌜ now self .reversals + 1 < 2 ^ 64 ⌝ }
         ensures { λ _. ⌜ now (self .exit) ≡ gone-on (now (self .entry)) shoulder ⌝ }

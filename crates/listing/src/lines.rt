@@ -17,7 +17,7 @@ fn spaced(text: &mut Text, n: u32) {
 }
 
 // The line of a reader's refusal: its number and its place.
-pub fn fault_line(text: &mut Text, fault: Fault) {
+pub(crate) fn fault_line(text: &mut Text, fault: Fault) {
     text.byte(b'R');
     spaced(text, fault.question.number() as u32);
     spaced(text, fault.place.min(u32::MAX as usize) as u32);
@@ -25,14 +25,14 @@ pub fn fault_line(text: &mut Text, fault: Fault) {
 }
 
 // The line of a call's refusal: its number.
-pub fn refusal_line(text: &mut Text, refusal: Refusal) {
+pub(crate) fn refusal_line(text: &mut Text, refusal: Refusal) {
     text.byte(b'R');
     spaced(text, refusal.number() as u32);
     text.byte(NEWLINE);
 }
 
 // The first line of a listing: the cost's letter and the rung count.
-pub fn head_line<C: Printed>(text: &mut Text, rungs: usize) {
+pub(crate) fn head_line<C: Printed>(text: &mut Text, rungs: usize) {
     text.byte(b'L');
     text.byte(SPACE);
     text.byte(C::LETTER);
@@ -41,7 +41,7 @@ pub fn head_line<C: Printed>(text: &mut Text, rungs: usize) {
 }
 
 // The line of a track: its number, its cost and its pose numbers.
-pub fn track_line<C: Printed>(text: &mut Text, taken: Taken<C>, steps: &[Step]) {
+pub(crate) fn track_line<C: Printed>(text: &mut Text, taken: Taken<C>, steps: &[Step]) {
     text.number(taken.number.min(u32::MAX as usize) as u32);
     text.byte(SPACE);
     taken.cost.print(text);

@@ -9,3 +9,6 @@ mod Drawing
 mod Pending
 mod Descent
 pub mod Premises
+mod Best
+mod Writing
+mod Finding

@@ -4,3 +4,4 @@ pub mod Tables
 pub mod Standing
 pub mod Effects
 pub mod Finding
+pub mod Sound

@@ -5,6 +5,7 @@ ghost use Prim.Native.Nat.{_+_, _<_, _≤_};
 ghost use lib.ListN.{length};
 ghost use Rattle.std.specs.Options.{isSome};
 ghost use Rattle.resolver.specs.Bounds.{Bounds, Same};
+ghost use Rattle.resolver.specs.Finding.{Finds-next};
 ghost use Rattle.resolver.specs.Effects.{Advances-pose, Appends-track, Descends, Draws-least, Enters-successor, Enters-track, Extends-track, Is-followed, Is-needed, Is-pending, Lets-wait, Links-last, Ranks-track};
 use crate::parts::draw_part;
 use crate::parts::enter_part;
@@ -224,6 +225,7 @@ impl<'t, C: Cost> Core<'t, C> {
         requires { ⌜ Bounds (now self) ⌝ ∗ ⌜ r < now self .«rung_limit» ⌝ }
         ensures bounds { λ _. ⌜ Bounds (now (self .exit)) ⌝ }
         ensures same { λ _. ⌜ Same (now (self .entry)) (now (self .exit)) ⌝ }
+        ensures effect { λ _. ⌜ Finds-next (C·Cost .rules) (now (self .entry)) (now (self .exit)) r (v .0) ⌝ }
     {
         let mut path = [v; 128];
         let low = self.descend(r, v, &mut path);

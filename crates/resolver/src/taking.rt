@@ -3,6 +3,8 @@ ghost use mathlib.Core.Path.{_≡_};
 ghost use Prim.Native.Nat.{_+_, _<_, _≤_};
 ghost use lib.ListN.{length, getD};
 ghost use Rattle.resolver.specs.Bounds.{Bounds, Same, settled};
+ghost use Rattle.resolver.specs.Sound.{Betters, Is-best, Writes-steps};
+ghost use Rattle.resolver.specs.Tables.{station-at, track-at, width};
 use crate::answers::Taken;
 use crate::tables::Core;
 use enumeration::Place;
@@ -18,9 +20,19 @@ impl<'t, C: Cost> Core<'t, C> {
         self.counts[(v.0 as usize).min(15)]
     }
 
+    // The cost of the track found last at pose v of rung r.
+    fn last_cost(&self, r: usize, v: PoseNumber) -> C
+        requires { ⌜ Bounds (now self) ⌝ ∗ ⌜ r < now self .«rung_limit» ⌝ }
+        ensures { λ x. ⌜ (v .0 < 16 → station-at (now (self .entry)) r (v .0) .last .0 < width (now (self .entry)) → x ≡ track-at (now (self .entry)) (C·Cost .rules) r (station-at (now (self .entry)) r (v .0) .last .0) .cost) ⌝ }
+    {
+        let s = self.station(r, v);
+        self.track(r, s.last).cost
+    }
+
     // The better of the best so far and the first untaken track at pose v of rung r; of two that cost the same, the best so far.
     fn better(&self, r: usize, best: Option<PoseNumber>, v: PoseNumber) -> Option<PoseNumber>
         requires { ⌜ Bounds (now self) ⌝ ∗ ⌜ r < now self .«rung_limit» ⌝ }
+        ensures { λ o. ⌜ Betters (C·Cost .rules) (now (self .entry)) r best (v .0) o ⌝ }
     {
         let s = self.station(r, v);
         if self.taken_at(v) >= s.found {
@@ -29,18 +41,18 @@ impl<'t, C: Cost> Core<'t, C> {
         let Some(w) = best else {
             return Some(v);
         };
-        let cost = self.track(r, s.last).cost;
-        let least = self.track(r, self.station(r, w).last).cost;
+        let cost = self.last_cost(r, v);
+        let least = self.last_cost(r, w);
         if cost.compare(least).is_lt() {
-            Some(v)
-        } else {
-            Some(w)
+            return Some(v);
         }
+        best
     }
 
     // The pose of rung r whose first untaken track is the next of the list.
     fn best(&self, r: usize) -> Option<PoseNumber>
         requires { ⌜ Bounds (now self) ⌝ ∗ ⌜ r < now self .«rung_limit» ⌝ }
+        ensures { λ o. ⌜ Is-best (C·Cost .rules) (now (self .entry)) r o ⌝ }
     {
         let mut best: Option<PoseNumber> = None;
         for v in 0..self.extents[r].poses {
@@ -52,6 +64,7 @@ impl<'t, C: Cost> Core<'t, C> {
     // Writes the steps of the track at a place of rung r.
     fn write(&self, r: usize, at: Place, out: &mut [Step])
         requires { ⌜ Bounds (now self) ⌝ ∗ ⌜ r < now self .«rung_limit» ⌝ ∗ ⌜ r < length (now out) ⌝ }
+        ensures { λ _. ⌜ Writes-steps (C·Cost .rules) (now (self .entry)) r (at .0) (now (out .entry)) (now (out .exit)) ⌝ }
     {
         let mut place = at;
         for i in (0..r + 1).rev() {

@@ -20,10 +20,9 @@ use Rattle.job.specs.declared.values.Arm.{Arm}
 use Rattle.job.specs.declared.values.Position.{Position}
 use Rattle.ladder.specs.declared.poses.Pose.{Pose}
 use Rattle.sources.specs.Directions.{sine, cosine}
-use Rattle.sources.specs.Reach.{off, near, reaching-pose, pose, row, reaching}
+use Rattle.sources.specs.Reach.{off, near, reaching-pose, pose, row, rows, reaching}
 use Rattle.sources.specs.Files.{reached, Offered}
 use Rattle.sources.specs.Offers.{Reaches, Before, Offers}
-use Rattle.sources.proofs.Scans.{row-to, row-all, reaching-to, reaching-all}
 use Rattle.sources.proofs.Rising.{Rising, rising-getD, rising-append, rising-kept-by, rising-weaker, rising-map, rising-counting, has-kept-by, has-map, has-joined, has-counting, all-joined, all-counting, same-rising, rising-from-getD}
 
 module _ (a : Arm) (at : Position) where
@@ -50,11 +49,13 @@ module _ (a : Arm) (at : Position) where
       In-row-one s e (reaching-pose a at s e) (kept-by (reaching-pose a at s) es) (λ q. (e, refl, means s e h (t .0) q)) (elbows s h es (t .1))
 
   -- rows and lists up to some elbow or shoulder
-  in-row : (s n : ℕ) → s < 64 → n ≤ 64 → All (In-row s) (row-to a at s n)
+  in-row : (s n : ℕ) → s < 64 → n ≤ 64 → All (In-row s) (row a at s n)
+  unfolding row
   in-row s n h k =
       all-map (In-row s) (pose s) (kept-by (reaching-pose a at s) (counting 0 n)) (elbows s h (counting 0 n) (all-counting (λ e. e < 64) 0 n (λ e p q. omega arith)))
 
-  row-rises : (s n : ℕ) → Rising Before (row-to a at s n)
+  row-rises : (s n : ℕ) → Rising Before (row a at s n)
+  unfolding row
   row-rises s n =
       rising-map Before (pose s) (kept-by (reaching-pose a at s) (counting 0 n))
       (rising-kept-by (λ x y. Before (pose s x) (pose s y)) (reaching-pose a at s) (counting 0 n)
@@ -66,44 +67,53 @@ module _ (a : Arm) (at : Position) where
       inl (let e : pos s <ℤ pos u = omega (arith, ints) in
       subst (λ z. z <ℤ q .shoulder) (sym (ap (λ r. r .shoulder) (k .1))) (subst (λ z. pos s <ℤ z) (sym (ap (λ r. r .shoulder) (l .1))) e))
 
-  whole-row : (s : ℕ) → s < 64 → All (In-row s) (row a at s)
-  whole-row s h = subst (All (In-row s)) (row-all a at s) (in-row s 64 h (omega arith))
+  -- the poses with shoulder s
+  abbrev whole : ℕ → List Pose
+  whole s = row a at s 64
+
+  in-whole : (s : ℕ) → s < 64 → All (In-row s) (whole s)
+  in-whole s h = in-row s 64 h (omega arith)
 
   -- the shoulders from s on, n of them
-  rows-rise : (s n : ℕ) → s + n ≤ 64 → Rising Before (joined (row a at) (counting s n))
-  rows-rise s zero h = tt
-  rows-rise s (suc n) h =
-      rising-append Before (row a at s) (joined (row a at) (counting (s + 1) n)) (subst (Rising Before) (row-all a at s) (row-rises s 64)) (rows-rise (s + 1) n (omega arith))
-      (all-weaker (In-row s) (λ p. All (Before p) (joined (row a at) (counting (s + 1) n)))
-      (λ p k. all-joined (Before p) (row a at) (counting (s + 1) n)
-      (all-counting (λ u. All (Before p) (row a at u)) (s + 1) n
-      (λ u l m. all-weaker (In-row u) (Before p) (λ q j. rows-apart s u p q (omega arith) k j) (row a at u) (whole-row u (omega arith)))))
-      (row a at s) (whole-row s (omega arith)))
+  from-rise : (s n : ℕ) → s + n ≤ 64 → Rising Before (joined whole (counting s n))
+  from-rise s zero h = tt
+  from-rise s (suc n) h =
+      rising-append Before (whole s) (joined whole (counting (s + 1) n)) (row-rises s 64) (from-rise (s + 1) n (omega arith))
+      (all-weaker (In-row s) (λ p. All (Before p) (joined whole (counting (s + 1) n)))
+      (λ p k. all-joined (Before p) whole (counting (s + 1) n)
+      (all-counting (λ u. All (Before p) (whole u)) (s + 1) n
+      (λ u l m. all-weaker (In-row u) (Before p) (λ q j. rows-apart s u p q (omega arith) k j) (whole u) (in-whole u (omega arith)))))
+      (whole s) (in-whole s (omega arith)))
+
+  rows-rise : (n : ℕ) → n ≤ 64 → Rising Before (rows a at n)
+  unfolding rows
+  rows-rise n h = from-rise 0 n (omega arith)
 
   abbrev Reached : Pose → Type 0
   Reached p = (s : ℕ) × (e : ℕ) × (p ≡ pose s e) × Reaches a at s e
 
-  rows-reach : (n : ℕ) → n ≤ 64 → All Reached (reaching-to a at n)
+  rows-reach : (n : ℕ) → n ≤ 64 → All Reached (rows a at n)
+  unfolding rows
   rows-reach n h =
-      all-joined Reached (row a at) (counting 0 n)
-      (all-counting (λ s. All Reached (row a at s)) 0 n
-      (λ s p q. all-weaker (In-row s) Reached (λ x k. (s, k .0, k .1, k .2)) (row a at s) (whole-row s (omega arith))))
+      all-joined Reached whole (counting 0 n)
+      (all-counting (λ s. All Reached (whole s)) 0 n
+      (λ s p q. all-weaker (In-row s) Reached (λ x k. (s, k .0, k .1, k .2)) (whole s) (in-whole s (omega arith))))
 
   -- every pose that reaches is there
-  in-a-row : (s e n : ℕ) → e < n → Reaches a at s e → Has (row-to a at s n) (pose s e)
+  in-a-row : (s e n : ℕ) → e < n → Reaches a at s e → Has (row a at s n) (pose s e)
+  unfolding row
   in-a-row s e n h r =
       has-map (pose s) (kept-by (reaching-pose a at s) (counting 0 n)) e (has-kept-by (reaching-pose a at s) (counting 0 n) e (passes s e r) (has-counting n e h))
 
-  in-rows : (s e n : ℕ) → s < n → Reaches a at s e → Has (reaching-to a at n) (pose s e)
-  in-rows s e n h r =
-      has-joined (row a at) (counting 0 n) s (pose s e) (has-counting n s h)
-      (subst (λ ps. Has ps (pose s e)) (row-all a at s) (in-a-row s e 64 (r .elbow) r))
+  in-rows : (s e n : ℕ) → s < n → Reaches a at s e → Has (rows a at n) (pose s e)
+  unfolding rows
+  in-rows s e n h r = has-joined whole (counting 0 n) s (pose s e) (has-counting n s h) (in-a-row s e 64 (r .elbow) r)
 
   pub offers : Offers a at (reaching a at)
   offers = record {
-    every = λ s e r. subst (λ ps. Has ps (pose s e)) (reaching-all a at) (in-rows s e 64 (r .shoulder) r);
-    only = λ p h. all-has Reached (reaching a at) p (subst (All Reached) (reaching-all a at) (rows-reach 64 (omega arith))) h;
-    rising = λ i j d h k. rising-getD Before (reaching a at) i j d (subst (Rising Before) (reaching-all a at) (rows-rise 0 64 (omega arith))) h k;
+    every = λ s e r. in-rows s e 64 (r .shoulder) r;
+    only = λ p h. all-has Reached (reaching a at) p (rows-reach 64 (omega arith)) h;
+    rising = λ i j d h k. rising-getD Before (reaching a at) i j d (rows-rise 64 (omega arith)) h k;
   }
 
 never-before : (p : Pose) → Before p p → ⊥

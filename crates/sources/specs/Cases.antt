@@ -1,10 +1,9 @@
 -- Cases worked by hand, for an arm with two links of length 100. Assumes nothing.
 use mathlib.Core.Path.{_≡_}
-use mathlib.Core.List.{List, [], _∷_}
+use mathlib.Core.List.{[], _∷_}
 use Prim.Native.Nat.{ℕ}
 use lib.IntN.{pos}
 use lib.ListN.{length}
-use Rattle.ladder.specs.declared.poses.Pose.{Pose}
 use Rattle.job.specs.declared.values.Arm.{Arm}
 use Rattle.job.specs.declared.values.Position.{Position}
 use Rattle.sources.specs.Reach.{pose, reaching}
@@ -13,6 +12,7 @@ use Rattle.sources.specs.Reach.{pose, reaching}
 abbrev pub even : ℕ → Arm
 even h = record { first = 100; second = 100; window = h }
 
+-- a position with coordinates that are not negative
 abbrev pub point : ℕ → ℕ → Position
 point x y = record { x = pos x; y = pos y }
 

@@ -31,15 +31,28 @@ reached (Some a) (Some at) = reaching a at
 abbrev pub armed : List ℕ → ℕ → List Pose
 armed file w = reached (arm-of file) (position-of file w)
 
--- the same of a job's values, of which a file that is refused has none
+-- tabled, from a job's values, of which a file that is refused has none
 abbrev pub tabled-in : Option Resolved → ℕ → List Pose
 tabled-in values w = map pose-of (valueOr (mapped (λ r. poses-in r w) values) [])
 
+-- the arm of a job's values
+abbrev pub arm-in : Option Resolved → Option Arm
+arm-in values = flattened (mapped (λ r. r .arm) values)
+
+-- where waypoint w of a job's values lies
+abbrev pub place-in : Option Resolved → ℕ → Option Position
+place-in values w = flattened (mapped (λ r. position-in r w) values)
+
+-- by the arm, from a job's values
 abbrev pub armed-in : Option Resolved → ℕ → List Pose
-armed-in values w = reached (flattened (mapped (λ r. r .arm) values)) (flattened (mapped (λ r. position-in r w) values))
+armed-in values w = reached (arm-in values) (place-in values w)
 
 -- a list holds what an arm offers for a position, and nothing without an arm or a position
 abbrev pub Offered : Option Arm → Option Position → List Pose → Type 0
 Offered None at ps = ps ≡ []
 Offered (Some a) None ps = ps ≡ []
 Offered (Some a) (Some at) ps = Offers a at ps
+
+-- each waypoint of a file has what the file's arm offers for where it lies
+abbrev pub Offers-for : List ℕ → (ℕ → List Pose) → Type 0
+Offers-for file lists = (w : ℕ) → Offered (arm-of file) (position-of file w) (lists w)

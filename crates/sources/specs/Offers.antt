@@ -28,3 +28,7 @@ pub record Offers (a : Arm) (at : Position) (ps : List Pose) : Type 0 where
   pub every : (s e : ℕ) → Reaches a at s e → Has ps (pose s e)
   pub only : (p : Pose) → Has ps p → (s : ℕ) × (e : ℕ) × (p ≡ pose s e) × Reaches a at s e
   pub rising : (i j : ℕ) (d : Pose) → i < j → j < length ps → Before (getD ps i d) (getD ps j d)
+
+-- this leaves no choice of a list
+abbrev pub One-list : Type 0
+One-list = (a : Arm) (at : Position) (ps qs : List Pose) → Offers a at ps → Offers a at qs → ps ≡ qs

@@ -3,9 +3,8 @@ use mathlib.Core.Path.{_≡_}
 use mathlib.Core.Bool.{cond}
 use mathlib.Core.List.{List}
 use Prim.Native.Nat.{ℕ, _+_, _-_, _≤_, _<_}
-use lib.Dec.{leb, ltb}
-use lib.IntN.{pos}
-use lib.ListN.{length, getD, set, replicate}
+use lib.Dec.{ltb}
+use lib.ListN.{set, replicate}
 use Rattle.std.specs.shelf.Lists.{folded}
 use Rattle.ladder.specs.declared.poses.Pose.{Pose}
 use Rattle.sources.specs.declared.pages.Page.{Page}

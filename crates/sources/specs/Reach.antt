@@ -23,13 +23,18 @@ near a p q x = leb (off a p q x) (10000 * a .window)
 abbrev pub reaching-pose : Arm → Position → ℕ → ℕ → Bool
 reaching-pose a at s e = near a (cosine s) (cosine (s + e)) (at .x) && near a (sine s) (sine (s + e)) (at .y)
 
+-- the pose with shoulder s and elbow e
 abbrev pub pose : ℕ → ℕ → Pose
 pose s e = record { shoulder = pos s; elbow = pos e }
 
--- the poses with shoulder s that reach, by rising elbow
-unfoldable pub row : Arm → Position → ℕ → List Pose
-row a at s = map (pose s) (kept-by (reaching-pose a at s) (counting 0 64))
+-- the poses with shoulder s and an elbow below n that reach, by rising elbow
+unfoldable pub row : Arm → Position → ℕ → ℕ → List Pose
+row a at s n = map (pose s) (kept-by (reaching-pose a at s) (counting 0 n))
 
--- all that reach, by rising shoulder
-unfoldable pub reaching : Arm → Position → List Pose
-reaching a at = joined (row a at) (counting 0 64)
+-- those with a shoulder below n, by rising shoulder
+unfoldable pub rows : Arm → Position → ℕ → List Pose
+rows a at n = joined (λ s. row a at s 64) (counting 0 n)
+
+-- all that reach: shoulders and elbows go from 0 to 63
+abbrev pub reaching : Arm → Position → List Pose
+reaching a at = rows a at 64

@@ -1,10 +1,9 @@
 // How an arm's source finds its poses.
 ghost use mathlib.Core.Path.{_≡_};
-ghost use Rattle.std.specs.Options.{mapped};
 ghost use Prim.Native.Nat.{ℕ};
-ghost use Rattle.job.specs.Resolved.{arm-of, position-of};
+ghost use Rattle.std.specs.Options.{mapped};
 ghost use Rattle.job.specs.Jobs.{view};
-ghost use Rattle.sources.specs.Files.{armed, armed-in, Offered};
+ghost use Rattle.sources.specs.Files.{armed, arm-in, place-in, armed-in, Offered, Offers-for};
 ghost use Rattle.sources.specs.Pages.{Shows, Covers};
 use crate::arms::Armed;
 use crate::arms::Memory;
@@ -32,16 +31,21 @@ fn find(job: &Option<Job>, waypoint: u16, from: usize) -> Page
     scan(arm, at, from)
 }
 
+// The source of a job, with nothing remembered.
+fn unasked<'a>(job: Option<Job<'a>>) -> Armed<'a>
+    ensures means { λ r. ⌜ mapped view (r .job) ≡ mapped view (job .entry) ⌝ }
+    ensures offers { λ r. ⌜ ((w : ℕ) → Offered (arm-in (mapped view (job .entry))) (place-in (mapped view (job .entry)) w) (armed-in (mapped view (r .job)) w)) ⌝ }
+{
+    Armed { job, memory: None }
+}
+
 impl<'a> Armed<'a> {
     // The source of a job file, which may be any bytes. The file is read here, and not again.
     pub fn new(file: &'a [u8]) -> Armed<'a>
         ensures means { λ r. ⌜ armed-in (mapped view (r .job)) ≡ armed (now (file .entry)) ⌝ }
-        ensures offers { λ r. ⌜ ((w : ℕ) → Offered (arm-of (now (file .entry))) (position-of (now (file .entry)) w) (armed-in (mapped view (r .job)) w)) ⌝ }
+        ensures offers { λ r. ⌜ Offers-for (now (file .entry)) (armed-in (mapped view (r .job))) ⌝ }
     {
-        Armed {
-            job: opened(file),
-            memory: None,
-        }
+        unasked(opened(file))
     }
 
     // The page of a waypoint that covers a number: the one that is remembered if it does.

@@ -13,6 +13,7 @@ pub use arms::Armed;
 pub use asking::Source;
 pub use directions::directions_stand;
 pub use finding::ArmedSource;
+pub use reach::offers_are_unique;
 pub use reach::reaches;
 pub use tabled::Tabled;
 pub use tabled::TabledSource;

@@ -95,14 +95,23 @@ fn try_pose(arm: Arm, at: Position, s: u8, e: u8, page: &mut Page)
     }
 }
 
+// One elbow more of the poses with shoulder s.
+fn try_next(arm: Arm, at: Position, s: u8, e: u8, page: &mut Page)
+    requires { ⌜ now page .count + 1 < 2 ^ 64 ⌝ }
+    ensures more { λ _. ⌜ ((g : Page) → now (page .entry) ≡ folded with-pose g (row arm at s e) → now (page .exit) ≡ folded with-pose g (row arm at s (e + 1))) ⌝ }
+    ensures bound { λ _. ⌜ now (page .exit) .count ≤ now (page .entry) .count + 1 ⌝ }
+{
+    try_pose(arm, at, s, e, page);
+}
+
 // Puts the poses with shoulder s that reach on a page, by rising elbow.
 fn scan_row(arm: Arm, at: Position, s: u8, page: &mut Page)
     requires { ⌜ now page .count + 64 < 2 ^ 64 ⌝ }
-    ensures found { λ _. ⌜ now (page .exit) ≡ folded with-pose (now (page .entry)) (row arm at s) ⌝ }
+    ensures found { λ _. ⌜ now (page .exit) ≡ folded with-pose (now (page .entry)) (row arm at s 64) ⌝ }
     ensures bound { λ _. ⌜ now (page .exit) .count ≤ now (page .entry) .count + 64 ⌝ }
 {
     for e in 0..64 {
-        try_pose(arm, at, s, e, page);
+        try_next(arm, at, s, e, page);
     }
 }
 

@@ -3,6 +3,7 @@ ghost use mathlib.Core.Path.{_≡_};
 ghost use Prim.Native.Nat.{_^_, _<_};
 ghost use lib.IntN.{pos, _*ℤ_, natAbs};
 ghost use Rattle.sources.specs.Directions.{sine, cosine};
+ghost use Rattle.sources.specs.Offers.{One-list};
 ghost use Rattle.sources.specs.Reach.{off, near, reaching-pose};
 use crate::directions::cosine_of;
 use crate::directions::sine_of;
@@ -53,4 +54,11 @@ pub fn reaches(arm: Arm, at: Position, s: u8, e: u8) -> bool
     let first = s as u16;
     let second = first + e as u16;
     near_across(arm, first, second, at.x) && near_along(arm, first, second, at.y)
+}
+
+// No two lists are what an arm offers for a position.
+pub fn offers_are_unique() -> u8
+    ensures { λ _. ⌜ One-list ⌝ }
+{
+    0
 }
