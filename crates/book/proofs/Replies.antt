@@ -5,10 +5,12 @@ use mathlib.Core.List.{List, []}
 use Prim.Native.Nat.{ℕ, _+_, _≤_, _<_}
 use native.Mathlib.Omega.{arith}
 use lib.Dec.{ltb, leb}
-use lib.ListN.{length}
+use lib.ListN.{length, getD}
 use Rattle.std.proofs.shelf.Tests.{lt-ltb, le-ltb, le-leb, lt-leb}
-use Rattle.ladder.specs.Tracks.{Rung}
-use Rattle.book.specs.Book.{Book, Answer, refused, counted, accepted, with-rung, shut, add-answer, adding, close-answer, closing}
+use Rattle.ladder.specs.declared.poses.Step.{Step}
+use Rattle.ladder.specs.Rules.{Rules}
+use Rattle.ladder.specs.Tracks.{Rung, Track, steps, cost}
+use Rattle.book.specs.Book.{Book, Answer, refused, counted, given, accepted, with-rung, shut, one-taken, written, add-answer, adding, close-answer, closing, next-answer, nexting-of}
 
 module _ {V : Type 0} (b : Book) (r : Rung) where
   pub add-closed : b .closed ≡ true → add-answer {V = V} b r ≡ refused 3
@@ -46,3 +48,38 @@ module _ {V : Type 0} (b : Book) where
   closing-done o n e =
       let a : counted n ≡ close-answer {V = V} b = rw o (ap counted (sym e)) in
       ap (λ (a : Answer V). record { answer = a; output = []; book = cond (accepted a) (shut b) b }) a
+
+-- next, where ts is the list of the ladder
+module _ {V P : Type 0} (c : Rules V P) (b : Book) (ts : List Track) (out : List Step) where
+  pub next-open : b .closed ≡ false → next-answer c b ts (length out) ≡ refused 7
+  next-open o = rw o
+
+  pub next-short : b .closed ≡ true → length out < length (b .rungs) → next-answer c b ts (length out) ≡ refused 8
+  next-short o h = let e = lt-leb (length (b .rungs)) (length out) h in rw (o, e)
+
+  pub next-spent : b .closed ≡ true → length (b .rungs) ≤ length out → b .ration ≤ b .taken → next-answer c b ts (length out) ≡ refused 9
+  next-spent o h r =
+      let e = le-leb (length (b .rungs)) (length out) h in
+      let f = le-ltb (b .taken) (b .ration) r in
+      rw (o, e, f)
+
+  pub next-ended : b .closed ≡ true → length (b .rungs) ≤ length out → b .taken < b .ration → length ts ≤ b .taken → next-answer c b ts (length out) ≡ refused 10
+  next-ended o h r l =
+      let e = le-leb (length (b .rungs)) (length out) h in
+      let f = lt-ltb (b .taken) (b .ration) r in
+      let g = le-ltb (b .taken) (length ts) l in
+      rw (o, e, f, g)
+
+  pub next-found : b .closed ≡ true → length (b .rungs) ≤ length out → b .taken < b .ration → b .taken < length ts → next-answer c b ts (length out) ≡ given (b .taken + 1) (cost c (b .rungs) (getD ts (b .taken) []))
+  next-found o h r l =
+      let e = le-leb (length (b .rungs)) (length out) h in
+      let f = lt-ltb (b .taken) (b .ration) r in
+      let g = lt-ltb (b .taken) (length ts) l in
+      rw (o, e, f, g)
+
+  -- a refusal leaves the output and the book
+  pub nexting-refused : (n : ℕ) → next-answer c b ts (length out) ≡ refused n → record { answer = refused n; output = out; book = b } ≡ nexting-of c b ts out
+  nexting-refused n e = ap (λ (a : Answer V). record { answer = a; output = cond (accepted a) (written (steps (b .rungs) (getD ts (b .taken) [])) out) out; book = cond (accepted a) (one-taken b) b }) (sym e)
+
+  pub nexting-given : (k : ℕ) (v : V) → next-answer c b ts (length out) ≡ given k v → record { answer = given k v; output = written (steps (b .rungs) (getD ts (b .taken) [])) out; book = one-taken b } ≡ nexting-of c b ts out
+  nexting-given k v e = ap (λ (a : Answer V). record { answer = a; output = cond (accepted a) (written (steps (b .rungs) (getD ts (b .taken) [])) out) out; book = cond (accepted a) (one-taken b) b }) (sym e)

@@ -12,3 +12,9 @@ pub mod Premises
 mod Best
 mod Writing
 mod Finding
+mod Renewing
+mod Next
+mod Placing
+mod Adding
+mod TakesNext
+mod Books

@@ -5,3 +5,4 @@ pub mod Standing
 pub mod Effects
 pub mod Finding
 pub mod Sound
+pub mod Adding

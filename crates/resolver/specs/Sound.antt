@@ -3,17 +3,20 @@ use mathlib.Core.Path.{_≡_}
 use mathlib.Core.Bool.{Bool, true, false}
 use mathlib.Core.List.{List, [], _∷_, _++_}
 use Prim.Native.Nat.{ℕ, zero, suc, _+_, _<_, _≤_}
-use lib.ListN.{length, getD, drop}
+use lib.ListN.{length, getD, set, drop}
 use Rattle.std.specs.declared.option.Option.{Option}
 use Rattle.std.specs.declared.option.Option.the-variants.{Some, None}
 use Rattle.std.specs.Options.{mapped}
 use Rattle.ladder.specs.declared.poses.PoseNumber.{PoseNumber}
 use Rattle.ladder.specs.declared.poses.Step.{Step}
 use Rattle.ladder.specs.Rules.{Rules}
-use Rattle.ladder.specs.Tracks.{steps}
+use Rattle.ladder.specs.Tracks.{Ladder, Track, steps, cost}
+use Rattle.ladder.specs.Listed.{tracks-of}
+use Rattle.std.specs.Options.{Cases as BySome}
+use Rattle.resolver.specs.declared.answers.Taken.{Taken}
 use Rattle.enumeration.specs.Tables.{Tables, ladder}
 use Rattle.enumeration.specs.Sound.{ends, Rung-sound, Rungs-sound}
-use Rattle.enumeration.specs.Filling.{Fresh}
+use Rattle.enumeration.specs.Filling.{Fresh, Same-ladder}
 use Rattle.enumeration.specs.Taking.{Heads, Best-below, last-cost}
 use Rattle.resolver.specs.declared.tables.Core.{Core}
 use Rattle.resolver.specs.Tables.{tables-of, width}
@@ -71,3 +74,59 @@ module _ {C P : Type 0} (c : Rules C P) (k : Core C) where
   abbrev pub Writes-steps : ℕ → ℕ → List Step → List Step → Type 0
   Writes-steps r i before after =
       (n : ℕ) → r < n → Rungs-sound c (k .limits) (tables-of c k) n → ((q : ℕ) → q < n → tables-of c k .used q ≤ width k) → i < tables-of c k .used r → after ≡ steps (ladder (tables-of c k) (suc r)) (getD (ends c (k .limits) (tables-of c k) r (tables-of c k .track r i .pose .0)) (tables-of c k .track r i .rank .0) []) ++ drop (suc r) before
+
+-- one track more is taken, at pose v of the last rung
+abbrev pub counted : {C : Type 0} → Core C → PoseNumber → Core C
+counted k v = record {
+  stations = k .stations;
+  ranked = k .ranked;
+  candidates = k .candidates;
+  extents = k .extents;
+  limits = k .limits;
+  «rung_limit» = k .«rung_limit»;
+  ration = k .ration;
+  rungs = k .rungs;
+  closed = k .closed;
+  taken = k .taken + 1;
+  counts = set (k .counts) (v .0) (taken-at k (v .0) + 1);
+  recent = Some v;
+}
+
+module _ {C P : Type 0} (c : Rules C P) (k m : Core C) where
+  -- the track after the one taken last was looked for on rung r, the last: nothing is due any more, and what the tables stand for is kept
+  abbrev pub Renews : ℕ → Type 0
+  Renews r = Sound c k → k .closed ≡ true → k .rungs ≡ suc r → k .taken < k .ration → Sound c m × Same-ladder (tables-of c k) (tables-of c m) (k .rungs)
+
+-- what opening fixed, and the ladder with its end, stay
+pub record Setup-kept {C : Type 0} (k m : Core C) : Type 0 where
+  pub limits : m .limits ≡ k .limits
+  pub rung-limit : m .«rung_limit» ≡ k .«rung_limit»
+  pub ration : m .ration ≡ k .ration
+  pub rungs : m .rungs ≡ k .rungs
+  pub closed : m .closed ≡ k .closed
+
+module _ {C P : Type 0} (c : Rules C P) (k : Core C) where
+  -- the ladder that the tables hold, and its list
+  abbrev pub ladder-of : Ladder
+  ladder-of = ladder (tables-of c k) (k .rungs)
+
+  abbrev pub list-of : List Track
+  list-of = tracks-of c (k .limits) ladder-of
+
+  -- the first untaken track of the list, its number and its cost, and its steps in the output
+  pub record Gives (before after : List Step) (n : ℕ) (x : Taken C) : Type 0 where
+    pub exists : k .taken < length list-of
+    pub number : x .number ≡ k .taken + 1
+    pub costs : x .cost ≡ cost c ladder-of (getD list-of (k .taken) [])
+    pub output : after ≡ steps ladder-of (getD list-of (k .taken) []) ++ drop (k .rungs) before
+    pub counts : n ≡ k .taken + 1
+
+  -- the list is at its end, and nothing is written
+  pub record Ends (before after : List Step) (n : ℕ) : Type 0 where
+    pub all : length list-of ≤ k .taken
+    pub output : after ≡ before
+    pub counts : n ≡ k .taken
+
+-- taking the next track of a closed ladder, from the resolver k to the resolver m
+abbrev pub Takes : {C P : Type 0} → Rules C P → Core C → Core C → List Step → List Step → Option (Taken C) → Type 0
+Takes c k m before after o = Sound c k → k .closed ≡ true → Sound c m × (ladder-of c m ≡ ladder-of c k) × BySome o (Ends c k before after (m .taken)) (λ x. Gives c k before after (m .taken) x)

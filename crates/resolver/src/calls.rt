@@ -1,10 +1,11 @@
 // Adding, closing and next.
 ghost use mathlib.Core.Path.{_≡_};
-ghost use mathlib.Core.List.{[], _∷_};
+ghost use mathlib.Core.List.{[]};
 ghost use Prim.Native.Nat.{_+_, _<_, _≤_};
 ghost use lib.ListN.{length};
-ghost use lib.Dec.{leb, ltb};
-ghost use Rattle.book.specs.Book.{add-answer, closing, first-no};
+ghost use Rattle.book.specs.Book.{adding, closing, nexting};
+ghost use Rattle.resolver.specs.Sound.{Sound};
+ghost use Rattle.resolver.specs.Adding.{Adds-rung, Grown-by-a-rung};
 ghost use Rattle.resolver.specs.Answers.{count-answer, track-answer};
 ghost use Rattle.resolver.specs.Bounds.{Bounds};
 ghost use Rattle.resolver.specs.Standing.{book};
@@ -36,6 +37,8 @@ impl<'t, C: Cost> Core<'t, C> {
         requires { ⌜ Bounds (now self) ⌝ ∗ ⌜ now self .rungs < now self .«rung_limit» ⌝ ∗ ⌜ length (now poses) ≤ 16 ⌝ ∗ ⌜ length (now poses) ≡ length (S·Source .meaning (now source) waypoint) ⌝ }
         ensures bounds { λ _. ⌜ Bounds (now (self .exit)) ⌝ }
         ensures count { λ n. ⌜ (n ≡ now (self .entry) .rungs + 1) × (now (self .exit) .rungs ≡ n) ⌝ }
+        ensures grown { λ _. ⌜ Grown-by-a-rung (now (self .entry)) (now (self .exit)) ⌝ }
+        ensures effect { λ _. ⌜ Adds-rung (C·Cost .rules) (now (self .entry)) (now (self .exit)) (S·Source .meaning (now (source .entry)) waypoint) ⌝ }
         ensures same { λ _. ⌜ S·Source .meaning (now (source .exit)) ≡ S·Source .meaning (now (source .entry)) ⌝ }
     {
         copy_poses(source, waypoint, poses);
@@ -46,7 +49,7 @@ impl<'t, C: Cost> Core<'t, C> {
 impl<'t, C: Cost> Resolver<'t, C> {
     // Adds a rung that holds the source's list at the waypoint; answers the new rung count.
     pub fn add<S: Source>(&mut self, source: &mut S, waypoint: u16) -> Result<usize, Refusal>
-        ensures answer { λ r. ⌜ count-answer r ≡ add-answer {V = C} (book (now (self .entry) .core)) (S·Source .meaning (now (source .entry)) waypoint) ⌝ }
+        ensures outcome { λ r. ⌜ (Sound (C·Cost .rules) (now (self .entry) .core) → Sound (C·Cost .rules) (now (self .exit) .core) × (record { answer = count-answer {V = C} r; output = []; book = book (now (self .exit) .core) } ≡ adding (book (now (self .entry) .core)) (S·Source .meaning (now (source .entry)) waypoint))) ⌝ }
         ensures same { λ r. ⌜ S·Source .meaning (now (source .exit)) ≡ S·Source .meaning (now (source .entry)) ⌝ }
     {
         if self.core.closed {
@@ -71,7 +74,8 @@ impl<'t, C: Cost> Resolver<'t, C> {
 
     // Closes the ladder; answers the rung count.
     pub fn close(&mut self) -> Result<usize, Refusal>
-        ensures { λ r. ⌜ record { answer = count-answer {V = C} r; output = []; book = book (now (self .exit) .core) } ≡ closing (book (now (self .entry) .core)) ⌝ }
+        ensures outcome { λ r. ⌜ record { answer = count-answer {V = C} r; output = []; book = book (now (self .exit) .core) } ≡ closing (book (now (self .entry) .core)) ⌝ }
+        ensures sound { λ _. ⌜ (Sound (C·Cost .rules) (now (self .entry) .core) → Sound (C·Cost .rules) (now (self .exit) .core)) ⌝ }
     {
         if self.core.closed {
             return Err(Refusal::Closed);
@@ -82,7 +86,7 @@ impl<'t, C: Cost> Resolver<'t, C> {
 
     // Takes the first untaken track of the list: answers its number and cost, and writes its steps to the first places of `out`.
     pub fn next(&mut self, out: &mut [Step]) -> Result<Taken<C>, Refusal>
-        ensures questions { λ r. ⌜ track-answer r ≡ first-no ((now (self .entry) .core .closed, 7) ∷ (leb (now (self .entry) .core .rungs) (length (now (out .entry))), 8) ∷ (ltb (now (self .entry) .core .taken) (now (self .entry) .core .ration), 9) ∷ []) (track-answer r) ⌝ }
+        ensures outcome { λ r. ⌜ (Sound (C·Cost .rules) (now (self .entry) .core) → Sound (C·Cost .rules) (now (self .exit) .core) × (record { answer = track-answer r; output = now (out .exit); book = book (now (self .exit) .core) } ≡ nexting (C·Cost .rules) (book (now (self .entry) .core)) (now (out .entry)))) ⌝ }
     {
         if !self.core.closed {
             return Err(Refusal::StillOpen);

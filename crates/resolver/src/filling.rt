@@ -2,6 +2,7 @@
 ghost use mathlib.Core.Path.{_≡_};
 ghost use Prim.Native.Nat.{_+_, _<_, _≤_};
 ghost use lib.ListN.{length};
+ghost use Rattle.resolver.specs.Adding.{Adds-rung, Enters-each, Enters-first-of, Grown-by-a-rung, Places-rung, Settles-pose};
 ghost use Rattle.resolver.specs.Bounds.{Bounds, Same};
 use crate::tables::Core;
 use enumeration::Back;
@@ -20,6 +21,7 @@ impl<'t, C: Cost> Core<'t, C> {
         requires { ⌜ Bounds (now self) ⌝ ∗ ⌜ r < now self .«rung_limit» ⌝ ∗ ⌜ length (now poses) ≤ 16 ⌝ }
         ensures bounds { λ _. ⌜ Bounds (now (self .exit)) ⌝ }
         ensures same { λ _. ⌜ Same (now (self .entry)) (now (self .exit)) ⌝ }
+        ensures effect { λ _. ⌜ Places-rung (C·Cost .rules) (now (self .entry)) (now (self .exit)) r (now (poses .entry)) ⌝ }
     {
         for (j, p) in poses.iter().enumerate() {
             self.stations[16 * r + j] = Station {
@@ -41,6 +43,7 @@ impl<'t, C: Cost> Core<'t, C> {
         requires { ⌜ Bounds (now self) ⌝ ∗ ⌜ r < now self .«rung_limit» ⌝ ∗ ⌜ 0 < r ⌝ }
         ensures bounds { λ _. ⌜ Bounds (now (self .exit)) ⌝ }
         ensures same { λ _. ⌜ Same (now (self .entry)) (now (self .exit)) ⌝ }
+        ensures effect { λ _. ⌜ Enters-first-of (C·Cost .rules) (now (self .entry)) (now (self .exit)) r (v .0) (u .0) ⌝ }
     {
         let s = self.station(r - 1, u);
         if s.found > 0 {
@@ -53,6 +56,7 @@ impl<'t, C: Cost> Core<'t, C> {
         requires { ⌜ Bounds (now self) ⌝ ∗ ⌜ r < now self .«rung_limit» ⌝ ∗ ⌜ 0 < r ⌝ }
         ensures bounds { λ _. ⌜ Bounds (now (self .exit)) ⌝ }
         ensures same { λ _. ⌜ Same (now (self .entry)) (now (self .exit)) ⌝ }
+        ensures effect { λ _. ⌜ Enters-each (C·Cost .rules) (now (self .entry)) (now (self .exit)) r (v .0) ⌝ }
     {
         let size = self.extents[r - 1].poses;
         for u in 0..size {
@@ -65,6 +69,7 @@ impl<'t, C: Cost> Core<'t, C> {
         requires { ⌜ Bounds (now self) ⌝ ∗ ⌜ r < now self .«rung_limit» ⌝ }
         ensures bounds { λ _. ⌜ Bounds (now (self .exit)) ⌝ }
         ensures same { λ _. ⌜ Same (now (self .entry)) (now (self .exit)) ⌝ }
+        ensures effect { λ _. ⌜ Settles-pose (C·Cost .rules) (now (self .entry)) (now (self .exit)) r (v .0) ⌝ }
     {
         if r > 0 {
             self.enter_all(r, v);
@@ -90,6 +95,8 @@ impl<'t, C: Cost> Core<'t, C> {
         requires { ⌜ Bounds (now self) ⌝ ∗ ⌜ now self .rungs < now self .«rung_limit» ⌝ ∗ ⌜ length (now poses) ≤ 16 ⌝ }
         ensures bounds { λ _. ⌜ Bounds (now (self .exit)) ⌝ }
         ensures count { λ n. ⌜ (n ≡ now (self .entry) .rungs + 1) × (now (self .exit) .rungs ≡ n) ⌝ }
+        ensures grown { λ _. ⌜ Grown-by-a-rung (now (self .entry)) (now (self .exit)) ⌝ }
+        ensures effect { λ _. ⌜ Adds-rung (C·Cost .rules) (now (self .entry)) (now (self .exit)) (now (poses .entry)) ⌝ }
     {
         let r = self.rungs;
         self.place(r, poses);

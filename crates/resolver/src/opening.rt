@@ -6,6 +6,7 @@ ghost use Rattle.book.specs.Book.{sizing, opened, new-book};
 ghost use Rattle.ladder.specs.declared.poses.Limits.{Limits};
 ghost use Rattle.resolver.specs.Answers.{size-answer};
 ghost use Rattle.resolver.specs.Bounds.{Bounds, Roomy};
+ghost use Rattle.resolver.specs.Sound.{Sound};
 ghost use Rattle.resolver.specs.Standing.{book};
 use crate::answers::Refusal;
 use crate::held::Resolver;
@@ -67,6 +68,7 @@ impl<'t, C: Cost> Core<'t, C> {
         candidates: &'t mut [Candidate<C>],
     ) -> Core<'t, C>
         ensures bounds { λ r. ⌜ Bounds r ⌝ }
+        ensures sound { λ r. ⌜ Sound (C·Cost .rules) r ⌝ }
         ensures opens { λ r. ⌜ book r ≡ opened limits «rung_limit» ration (length (now (stations .entry))) (length (now (ranked .entry))) (length (now (candidates .entry))) ⌝ }
     {
         let (rung_limit, ration) = fitted(
@@ -107,6 +109,7 @@ impl<'t, C: Cost> Resolver<'t, C> {
         ranked: &'t mut [Ranked<C>],
         candidates: &'t mut [Candidate<C>],
     ) -> Resolver<'t, C>
+        ensures sound { λ r. ⌜ Sound (C·Cost .rules) (r .core) ⌝ }
         ensures opens { λ r. ⌜ book (r .core) ≡ opened limits «rung_limit» ration (length (now (stations .entry))) (length (now (ranked .entry))) (length (now (candidates .entry))) ⌝ }
     {
         Resolver {

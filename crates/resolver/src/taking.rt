@@ -3,7 +3,7 @@ ghost use mathlib.Core.Path.{_≡_};
 ghost use Prim.Native.Nat.{_+_, _<_, _≤_};
 ghost use lib.ListN.{length, getD};
 ghost use Rattle.resolver.specs.Bounds.{Bounds, Same, settled};
-ghost use Rattle.resolver.specs.Sound.{Betters, Is-best, Writes-steps};
+ghost use Rattle.resolver.specs.Sound.{Betters, Is-best, Writes-steps, Renews, Setup-kept, Takes, counted, taken-at};
 ghost use Rattle.resolver.specs.Tables.{station-at, track-at, width};
 use crate::answers::Taken;
 use crate::tables::Core;
@@ -83,6 +83,7 @@ impl<'t, C: Cost> Core<'t, C> {
         requires { ⌜ Bounds (now self) ⌝ ∗ ⌜ r < now self .«rung_limit» ⌝ }
         ensures bounds { λ _. ⌜ Bounds (now (self .exit)) ⌝ }
         ensures same { λ _. ⌜ Same (settled (now (self .entry))) (now (self .exit)) ⌝ }
+        ensures effect { λ _. ⌜ Renews (C·Cost .rules) (now (self .entry)) (now (self .exit)) r ⌝ }
     {
         if let Some(v) = self.recent {
             self.recent = None;
@@ -94,7 +95,9 @@ impl<'t, C: Cost> Core<'t, C> {
     fn count_taken(&mut self, v: PoseNumber) -> usize
         requires { ⌜ Bounds (now self) ⌝ ∗ ⌜ now self .taken < now self .ration ⌝ }
         ensures bounds { λ _. ⌜ Bounds (now (self .exit)) ⌝ }
+        ensures kept { λ _. ⌜ Setup-kept (now (self .entry)) (now (self .exit)) ⌝ }
         ensures number { λ n. ⌜ n ≡ now (self .entry) .taken + 1 ⌝ }
+        ensures effect { λ _. ⌜ (v .0 < 16 → taken-at (now (self .entry)) (v .0) < 65535 → now (self .exit) ≡ counted (now (self .entry)) v) ⌝ }
     {
         let i = (v.0 as usize).min(15);
         self.counts[i] = self.counts[i].saturating_add(1);
@@ -107,15 +110,19 @@ impl<'t, C: Cost> Core<'t, C> {
     pub(crate) fn take_next(&mut self, out: &mut [Step]) -> Option<Taken<C>>
         requires { ⌜ Bounds (now self) ⌝ ∗ ⌜ now self .taken < now self .ration ⌝ ∗ ⌜ now self .rungs ≤ length (now out) ⌝ }
         ensures bounds { λ _. ⌜ Bounds (now (self .exit)) ⌝ }
+        ensures kept { λ _. ⌜ Setup-kept (now (self .entry)) (now (self .exit)) ⌝ }
+        ensures effect { λ o. ⌜ Takes (C·Cost .rules) (now (self .entry)) (now (self .exit)) (now (out .entry)) (now (out .exit)) o ⌝ }
     {
         if self.rungs == 0 {
             return None;
         }
         let r = self.rungs - 1;
         self.renew(r);
-        let v = self.best(r)?;
+        let Some(v) = self.best(r) else {
+            return None;
+        };
         let at = self.station(r, v).last;
-        let cost = self.track(r, at).cost;
+        let cost = self.last_cost(r, v);
         self.write(r, at, out);
         let number = self.count_taken(v);
         Some(Taken { number, cost })

@@ -1,5 +1,6 @@
 use native.Mathlib.Omega.{arith}
-use mathlib.Core.Path.{sym}
+use mathlib.Core.Path.{refl, sym}
+use Rattle.resolver.proofs.Books.{open-sound, zeros}
 use Rattle.resolver.specs.Standing.{ladder-in}
 use Rattle.resolver.proofs.tables.Core.open.Needs as need
 
@@ -19,5 +20,6 @@ returns g c =
         ranked = f .roomy .ranked;
         candidates = f .roomy .candidates;
       };
+      sound = open-sound (g .C·Cost .rules) _ refl refl refl refl (λ v. zeros 16 v);
       opens = sym (f .opens (c .args .limits));
     }

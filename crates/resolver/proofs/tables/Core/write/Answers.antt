@@ -35,9 +35,8 @@ loop-i-again g c = λ n h s room u.
     let number : c .track-e .result .pose .0 < 16 = subst (λ (x : Ranked (g .C .Denot)). x .pose .0 < 16) (sym e) (omega (arith, posed, s (i - 1) below .few)) in
     let at = c .station .ensures number in
     let step : _≡_ {A = Step} (record { number = c .track-e .result .pose; pose = c .station .result .pose }) (step-in t (i - 1) p) =
-      ap (λ (z : Station). record { number = c .track-e .result .pose; pose = z .pose }) at ∙ ap (λ (x : Ranked (g .C .Denot)). record { number = x .pose; pose = station-at k (i - 1) (x .pose .0) .pose }) e in
-    let front = ap (λ (x : Ranked (g .C .Denot)). x .front .0) e in
-    (
+    ap (λ (z : Station). record { number = c .track-e .result .pose; pose = z .pose }) at ∙ ap (λ (x : Ranked (g .C .Denot)). record { number = x .pose; pose = station-at k (i - 1) (x .pose .0) .pose }) e in
+    let front = ap (λ (x : Ranked (g .C .Denot)). x .front .0) e in (
       next-in-use rules laws (k .limits) (c .pre .0 .shoulder, c .pre .0 .elbow) t n s i p (c .track-e .result .front .0) (omega (arith, high, h)) in-use front,
       step-back t i p (c .track-e .result .front .0) (c .loop-i .out) _ some step front ∙ old .1,
     )
