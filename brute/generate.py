@@ -194,6 +194,24 @@ def notes(dice: Dice) -> Iterator[bytes]:
         yield job_bytes([Parts(rung, note=dice.some_bytes(255))])[:-cut]
 
 
+def longest_jobs(dice: Dice) -> Iterator[bytes]:
+    """The longest lawful job, the same with a byte left over, and the same cut by one."""
+    rung = kinds.random_rungs(dice, [16], range(-300, 301))[0]
+    record = Parts(rung, 100, 100, dice.some_bytes(255))
+    job = job_bytes([record] * 128, Limits(500, 600), SMALL_ARM, 7)
+    yield job
+    yield job + b"\x00"
+    yield job[:-1]
+
+
+def changed_everywhere(dice: Dice) -> Iterator[bytes]:
+    """Some jobs with each byte changed, one at a time, by one more, by its highest bit and by all bits."""
+    for job in (WORKED_JOB, full_job(dice), tabled_job(dice)):
+        for place, value in enumerate(job):
+            for other in ((value + 1) % 256, value ^ 128, value ^ 255):
+                yield damage.changed(job, place, other)
+
+
 def full_job(dice: Dice) -> bytes:
     """A short job with every field of header and record."""
     rungs = kinds.random_rungs(dice, [2, 1, 2], range(-300, 301))
@@ -327,6 +345,8 @@ FAMILIES: dict[str, Callable[[Dice], Iterator[bytes]]] = {
     "letters": wrong_letters,
     "later faults": later_faults,
     "damaged": randomly_damaged,
+    "longest": longest_jobs,
+    "changed everywhere": changed_everywhere,
 }
 
 
