@@ -278,8 +278,8 @@ module _ {V P : Type 0} (c : Rules V P) (laws : Lawful c) (b : Book) (bounded : 
         in_turn = λ k v a.
             let g = s.gives k v a in
             let one = g.from_one in
-            let u = g.is-left.untaken in
-            let l = g.is-left.inside in
+            let u = g.is_left.untaken in
+            let l = g.is_left.inside in
             let h = g.first b.taken (at_first (omega arith)) in
             omega arith;
         spent = (λ a. let p = s.spent.0 a in (p.0, spent_next (p.1, p.2)), λ p. let h : b.ration ≤ b.taken = p.1 in s.spent.1 (p.0, omega arith, λ j l. let u : b.taken ≤ j = l.untaken in omega arith));

@@ -16,7 +16,7 @@ pub trait Ordered: Copy {
 // Whether the record at `a` is before the one at `b`.
 fn precedes<T: Ordered>(slots: &[T], a: usize, b: usize) -> bool
     requires { (a < length slots.now) × (b < length slots.now) }
-    ensures { (d : T) → before (slice_index_or slots.now a d) (slice_index_or slots.now b d) ≡ result }
+    ensures { (d : T) → T.before (slice_index_or slots.now a d) (slice_index_or slots.now b d) ≡ result }
 {
     slots[a].is_before(slots[b])
 }
@@ -25,7 +25,7 @@ fn precedes<T: Ordered>(slots: &[T], a: usize, b: usize) -> bool
 fn first_child<T: Ordered>(slots: &[T], at: usize) -> usize
     requires { 2 * at + 1 < length slots.now }
     ensures bound { (result < length slots.now) × (at * 2 + 1 ≤ result) × (result ≤ at * 2 + 2) }
-    ensures best { OrderOn valid before → Valid valid slots.now (length slots.now) → Best before slots.now at result (length slots.now) }
+    ensures best { OrderOn T.valid T.before → Valid T.valid slots.now (length slots.now) → Best T.before slots.now at result (length slots.now) }
 {
     let left = 2 * at + 1;
     let right = left + 1;
@@ -41,7 +41,7 @@ fn first_child<T: Ordered>(slots: &[T], at: usize) -> usize
 // Brings the last record up to its place.
 fn sift_up<T: Ordered>(slots: &mut [T])
     ensures same { IsPermutation slots.old slots.new }
-    ensures rises { OrderOn valid before → Valid valid slots.old (length slots.old) → Heaped before slots.old 0 (length slots.old - 1) → Stands valid before slots.new (length slots.old) }
+    ensures rises { OrderOn T.valid T.before → Valid T.valid slots.old (length slots.old) → Heaped T.before slots.old 0 (length slots.old - 1) → Stands T.valid T.before slots.new (length slots.old) }
 {
     let mut at = slots.len();
     if at == 0 {
@@ -61,7 +61,7 @@ fn sift_up<T: Ordered>(slots: &mut [T])
 // Brings the first record down to its place.
 fn sift_down<T: Ordered>(slots: &mut [T])
     ensures same { IsPermutation slots.old slots.new }
-    ensures sinks { OrderOn valid before → Valid valid slots.old (length slots.old) → Heaped before slots.old 1 (length slots.old) → Stands valid before slots.new (length slots.old) }
+    ensures sinks { OrderOn T.valid T.before → Valid T.valid slots.old (length slots.old) → Heaped T.before slots.old 1 (length slots.old) → Stands T.valid T.before slots.new (length slots.old) }
 {
     let mut at = 0;
     while at < slots.len() / 2 {
@@ -78,7 +78,7 @@ fn sift_down<T: Ordered>(slots: &mut [T])
 fn take_first<T: Ordered>(full: &mut [T]) -> T
     requires { 0 < length full.old }
     ensures same { IsPermutation full.old (result ∷ take (length full.old - 1) full.new) }
-    ensures least { OrderOn valid before → Stands valid before full.old (length full.old) → Least before result full.old × Stands valid before full.new (length full.old - 1) }
+    ensures least { OrderOn T.valid T.before → Stands T.valid T.before full.old (length full.old) → Least T.before result full.old × Stands T.valid T.before full.new (length full.old - 1) }
 {
     let last = full.len() - 1;
     let first = full[0];
@@ -90,7 +90,7 @@ fn take_first<T: Ordered>(full: &mut [T]) -> T
 // Puts x behind the first `len` of `slots`, a heap, and brings it to its place.
 fn put<T: Ordered>(slots: &mut [T], len: usize, x: T)
     requires { len < length slots.old }
-    ensures { Pushed valid before slots.old len x slots.new (len + 1) }
+    ensures { Pushed T.valid T.before slots.old len x slots.new (len + 1) }
 {
     slots[len] = x;
     sift_up(&mut slots[0..len + 1]);
@@ -99,7 +99,7 @@ fn put<T: Ordered>(slots: &mut [T], len: usize, x: T)
 // Takes the least of the first `len` of `slots`, a heap.
 fn take<T: Ordered>(slots: &mut [T], len: usize) -> T
     requires { (0 < len) × (len ≤ length slots.old) }
-    ensures { Popped valid before slots.old len result slots.new (len - 1) }
+    ensures { Popped T.valid T.before slots.old len result slots.new (len - 1) }
 {
     take_first(&mut slots[0..len])
 }
@@ -135,7 +135,7 @@ impl<'a, T: Ordered> Heap<'a, T> {
     // Puts x in; refused where every slot is in use.
     pub fn push(&mut self, x: T) -> Result<(), Full>
         ensures lender { self.new.slots.ghost_name ≡ self.old.slots.ghost_name }
-        ensures done { MatchResult result (λ _. (self.old.len < length self.old.slots.now) × Pushed valid before self.old.slots.now self.old.len x self.new.slots.now self.new.len) (λ _. (length self.old.slots.now ≤ self.old.len) × (self.new.slots.now ≡ self.old.slots.now) × (self.new.len ≡ self.old.len)) }
+        ensures done { MatchResult result (λ _. (self.old.len < length self.old.slots.now) × Pushed T.valid T.before self.old.slots.now self.old.len x self.new.slots.now self.new.len) (λ _. (length self.old.slots.now ≤ self.old.len) × (self.new.slots.now ≡ self.old.slots.now) × (self.new.len ≡ self.old.len)) }
     {
         let n = self.len;
         if n >= self.slots.len() {
@@ -149,7 +149,7 @@ impl<'a, T: Ordered> Heap<'a, T> {
     // Takes the least record out, if there is one.
     pub fn pop(&mut self) -> Option<T>
         ensures lender { self.new.slots.ghost_name ≡ self.old.slots.ghost_name }
-        ensures done { MatchOption result ((used self.old.slots.now self.old.len ≡ 0) × (self.new.slots.now ≡ self.old.slots.now) × (self.new.len ≡ self.old.len)) (λ x. Popped valid before self.old.slots.now (used self.old.slots.now self.old.len) x self.new.slots.now self.new.len) }
+        ensures done { MatchOption result ((used self.old.slots.now self.old.len ≡ 0) × (self.new.slots.now ≡ self.old.slots.now) × (self.new.len ≡ self.old.len)) (λ x. Popped T.valid T.before self.old.slots.now (used self.old.slots.now self.old.len) x self.new.slots.now self.new.len) }
     {
         let n = self.len();
         if n == 0 {

@@ -10,10 +10,10 @@ use crate::rules::{Cost, Keeping};
 
 // Travel and the worst step are lawful, and so is every pair of a keeping cost and a cost; travel keeps.
 pub fn costs_are_lawful<A: Keeping, B: Cost>()
-    ensures lawful { Lawful travel }
-    ensures keeps { Keeps travel }
-    ensures lawful_2 { Lawful worst }
-    ensures lawful_3 { Lawful (pair A.Cost.rules B.Cost.rules) }
+    ensures lawful_travel { Lawful travel }
+    ensures keeping_travel { Keeps travel }
+    ensures lawful_worst { Lawful worst }
+    ensures lawful_pair { Lawful (pair A.Cost.rules B.Cost.rules) }
 {}
 
 // The travel of up to 128 rungs is a plain sum: it never comes near the greatest 32-bit number.

@@ -9,8 +9,8 @@ loop-at-init g c = (IsPermutation-refl _, sink_begins _ _ c.args.slots.now)
 pub returns-then-not-precedes : goal.returns-then-not-precedes
 returns-then-not-precedes g c =
     let l = c.loop-at in
-    let child = c.first-child-child.result in
-    let told = c.first-child-child.ensures in
+    let child = c.first_child-child.result in
+    let told = c.first_child-child.ensures in
     let long : length l.slots ≡ length c.args.slots.now = length_permutation _ _ l.invariant.0 in
     record { same = l.invariant.0; sinks = sink_rests _ _ c.args.slots.now l.slots l.at child (omega arith) told.bound.0 long c.if-not-precedes.ensures told.best l.invariant.1 }
 
@@ -21,8 +21,8 @@ loop-at-preserved g c =
     let ys = l.slots in
     let zs = c.swap.new.self in
     let swapped = c.swap.ensures in
-    let child = c.first-child-child.result in
-    let told = c.first-child-child.ensures in
+    let child = c.first_child-child.result in
+    let told = c.first_child-child.ensures in
     let long : length ys ≡ length xs = length_permutation xs ys l.invariant.0 in (
       IsPermutation-trans xs ys zs l.invariant.0 swapped.permutation,
       sink_steps _ _ xs ys zs l.at child told.bound.1 told.bound.2 told.bound.0 long (swapped.by_index.0, swapped.by_index.1, swapped.by_index.2) c.if-not-precedes.ensures told.best l.invariant.1,

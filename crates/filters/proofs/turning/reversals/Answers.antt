@@ -13,15 +13,15 @@ use Rattle.filters.proofs.turning.reversals.Goals as goal
 none : Step
 none = record { number = record { 0 = 0 }; pose = record { shoulder = pos 0; elbow = pos 0 } }
 
-pub returns-then-is-empty : goal.returns-then-is-empty
-returns-then-is-empty c =
-    sym (ap turned_back (nil_from_length c.args.steps.now (eqb-true _ _ (sym c.if-is-empty.ensures))))
+pub returns-then-is_empty : goal.returns-then-is_empty
+returns-then-is_empty c =
+    sym (ap turned_back (nil_from_length c.args.steps.now (eqb-true _ _ (sym c.if-is_empty.ensures))))
 
 pub loop-step-init : goal.loop-step-init
 unfolding none
 loop-step-init c =
     let xs = c.args.steps.now in
-    let full : 0 < length xs = omega (arith, eqb-false (length xs) 0 (sym c.if-is-empty.ensures)) in
+    let full : 0 < length xs = omega (arith, eqb-false (length xs) 0 (sym c.if-is_empty.ensures)) in
     let fits : SFits w16 (get_or xs 0 none).pose.shoulder = search rules in (
       zero-add _ ∙ ap (λ z. opposites (filter moves (differences (z ∷ shoulders (take (length xs - 1) (drop 1 xs)))))) (to_z-of_z w16 _ fits)
           ∙ ap turned_back (sym (first_rest xs none full)),
@@ -35,7 +35,7 @@ loop-step-preserved c =
     let i = c.loop-step.step-index in
     let t = c.loop-step.tally in
     let fits : SFits w16 (get_or rest i none).pose.shoulder = search rules in
-    let gone = c.go-on.ensures ∙ ap (gone_on t) (to_z-of_z w16 _ fits) in (
+    let gone = c.go_on.ensures ∙ ap (gone_on t) (to_z-of_z w16 _ fits) in (
       ap (λ u. in_all u (shoulders (drop (i + 1) rest))) gone
           ∙ in_all_more t (get_or rest i none).pose.shoulder (shoulders (drop (i + 1) rest))
           ∙ sym (at_drop_more (λ xs. in_all t (shoulders xs)) rest i none c.loop-step-test.true)

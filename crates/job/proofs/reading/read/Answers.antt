@@ -46,6 +46,6 @@ known s (Err f) m n = ap (λ o. option_map resolved (accepted o)) n
 
 pub returns : goal.returns
 returns c = record {
-  outcome = outcome c.args.file.now (λ i. (c.type-inv.file i).fits) c.scan.result c.scan.ensures.means c.scan.ensures.stops;
+  outcome = outcome c.args.file.now (λ i. (c.type_inv.file i).fits) c.scan.result c.scan.ensures.means c.scan.ensures.stops;
   values = known c.args.file.now c.scan.result c.scan.ensures.means c.scan.ensures.stops;
 }

@@ -40,11 +40,11 @@ returns-else-source-sources g c =
     let k = c.args.resolver.now.core in
     let m = c.add.new.self.core in
     let out = c.args.outputs.now in
-    let a = c.of-count.result in
+    let a = c.of_count.result in
     record {
       sources = map_set_same mean xs i d c.add.new.source c.add.ensures.same;
       filters = refl;
-      made = subst (λ (x : Call). Made (map mean xs) fs g.C.Cost.rules x k out (Some a) out m) (sym c.in-Add.is) (made_add g.C.Cost.rules (map mean xs) fs k m out a i c.in-Add.waypoint (mean (get_or xs i d)) c.add.result (nth_map mean xs i d c.if-source-sources.false) c.of-count.ensures c.add.ensures.outcome);
+      made = subst (λ (x : Call). Made (map mean xs) fs g.C.Cost.rules x k out (Some a) out m) (sym c.in-Add.is) (made_add g.C.Cost.rules (map mean xs) fs k m out a i c.in-Add.waypoint (mean (get_or xs i d)) c.add.result (nth_map mean xs i d c.if-source-sources.false) c.of_count.ensures c.add.ensures.outcome);
     }
 
 pub returns-in-Close : goal.returns-in-Close
@@ -54,11 +54,11 @@ returns-in-Close g c =
     let k = c.args.resolver.now.core in
     let m = c.close.new.self.core in
     let out = c.args.outputs.now in
-    let a = c.of-count-in-Close.result in
+    let a = c.of_count-in-Close.result in
     record {
       sources = refl;
       filters = refl;
-      made = subst (λ (x : Call). Made ms fs g.C.Cost.rules x k out (Some a) out m) (sym c.in-Close.is) (made_close g.C.Cost.rules ms fs k m out a c.close.result c.of-count-in-Close.ensures c.close.ensures.outcome);
+      made = subst (λ (x : Call). Made ms fs g.C.Cost.rules x k out (Some a) out m) (sym c.in-Close.is) (made_close g.C.Cost.rules ms fs k m out a c.close.result c.of_count-in-Close.ensures c.close.ensures.outcome);
     }
 
 pub returns-in-Next : goal.returns-in-Next
@@ -70,13 +70,13 @@ returns-in-Next g c =
     let out = c.args.outputs.now in
     let n = c.in-Next.places in
     let part = c.next.new.out in
-    let a = c.of-track.result in
+    let a = c.of_track.result in
     let room : n ≤ length out = omega (arith, c.if-places-outputs.false, c.places.ensures, ap places c.in-Next.is) in
     let long : length part ≡ n = ? in
     record {
       sources = refl;
       filters = refl;
-      made = subst (λ (x : Call). Made ms fs g.C.Cost.rules x k out (Some a) (part ++ post_of 0 (n - 0) out) m) (sym c.in-Next.is) (made_next g.C.Cost.rules ms fs k m out a n (n - 0) (omega arith) room part long c.next.result c.of-track.ensures c.next.ensures.outcome);
+      made = subst (λ (x : Call). Made ms fs g.C.Cost.rules x k out (Some a) (part ++ post_of 0 (n - 0) out) m) (sym c.in-Next.is) (made_next g.C.Cost.rules ms fs k m out a n (n - 0) (omega arith) room part long c.next.result c.of_track.ensures c.next.ensures.outcome);
     }
 
 pub returns-else-filter-filters : goal.returns-else-filter-filters
@@ -91,11 +91,11 @@ returns-else-filter-filters g c =
     let out = c.args.outputs.now in
     let n = c.in-Seek.places in
     let part = c.seek.new.out in
-    let a = c.of-track-in-Seek.result in
+    let a = c.of_track-in-Seek.result in
     let room : n ≤ length out = omega (arith, c.if-places-outputs.false, c.places.ensures, ap places c.in-Seek.is) in
     let long : length part ≡ n = ? in
     record {
       sources = refl;
       filters = map_set_same passes xs j d c.seek.new.filter c.seek.ensures.same;
-      made = subst (λ (x : Call). Made ms (map passes xs) g.C.Cost.rules x k out (Some a) (part ++ post_of 0 (n - 0) out) m) (sym c.in-Seek.is) (made_seek g.C.Cost.rules ms (map passes xs) k m out a n (n - 0) (omega arith) room part long c.seek.result c.of-track-in-Seek.ensures j (passes (get_or xs j d)) (nth_map passes xs j d c.if-filter-filters.false) c.seek.ensures.outcome);
+      made = subst (λ (x : Call). Made ms (map passes xs) g.C.Cost.rules x k out (Some a) (part ++ post_of 0 (n - 0) out) m) (sym c.in-Seek.is) (made_seek g.C.Cost.rules ms (map passes xs) k m out a n (n - 0) (omega arith) room part long c.seek.result c.of_track-in-Seek.ensures j (passes (get_or xs j d)) (nth_map passes xs j d c.if-filter-filters.false) c.seek.ensures.outcome);
     }

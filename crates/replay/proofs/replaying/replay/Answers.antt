@@ -6,24 +6,24 @@ pub loop-k-init : goal.loop-k-init
 loop-k-init g c = ?
 
 -- src/replaying.rt:57:72
-pub offset-bounds-outputs-used : goal.offset-bounds-outputs-used
-offset-bounds-outputs-used g c = ?
+pub offset_bounds-outputs-used : goal.offset_bounds-outputs-used
+offset_bounds-outputs-used g c = ?
 
 -- src/replaying.rt:57:72
-pub slice-bounds-make-count : goal.slice-bounds-make-count
-slice-bounds-make-count g c = ?
+pub slice_bounds-make-count : goal.slice_bounds-make-count
+slice_bounds-make-count g c = ?
 
 -- src/replaying.rt:57:72
-pub slice-bounds-make-start : goal.slice-bounds-make-start
-slice-bounds-make-start g c = ?
+pub slice_bounds-make-start : goal.slice_bounds-make-start
+slice_bounds-make-start g c = ?
 
 -- src/replaying.rt:58:13
-pub returns-in-default : goal.returns-in-default
-returns-in-default g c = ?
+pub returns-in_default : goal.returns-in_default
+returns-in_default g c = ?
 
 -- src/replaying.rt:61:9
-pub overflow-add-used : goal.overflow-add-used
-overflow-add-used g c = ?
+pub overflow_add-used : goal.overflow_add-used
+overflow_add-used g c = ?
 
 -- src/replaying.rt:55:5
 pub loop-k-preserved : goal.loop-k-preserved

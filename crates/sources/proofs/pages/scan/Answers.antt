@@ -10,8 +10,8 @@ loop-s-init c = (c.new-found.ensures ∙ sym (ap (page_of c.args.from) (rows_non
 
 pub loop-s-preserved : goal.loop-s-preserved
 loop-s-preserved c = (
-  rows_more c.args.arm c.args.at (blank c.args.from) c.loop-s.found c.scan-row.new.page c.loop-s.s c.loop-s.invariant.0 c.scan-row.ensures.found,
-  omega (arith, c.scan-row.ensures.bound),
+  rows_more c.args.arm c.args.at (blank c.args.from) c.loop-s.found c.scan_row.new.page c.loop-s.s c.loop-s.invariant.0 c.scan_row.ensures.found,
+  omega (arith, c.scan_row.ensures.bound),
 )
 
 pub returns : goal.returns

@@ -5,6 +5,6 @@ use Rattle.sources.proofs.reach.near_along.Goals as goal
 
 pub returns : goal.returns
 returns c =
-    c.is-near.ensures
-    ∙ near_cast c.args.arm c.sine-of.result c.sine-of-2.result (sine c.args.first) (sine c.args.second) c.args.y
-    (search rules) (search rules) c.ranges.y c.sine-of.ensures c.sine-of-2.ensures
+    c.is_near.ensures
+    ∙ near_cast c.args.arm c.sine_of.result c.sine_of-2.result (sine c.args.first) (sine c.args.second) c.args.y
+    (search rules) (search rules) c.ranges.y c.sine_of.ensures c.sine_of-2.ensures

@@ -17,7 +17,7 @@ returns c =
     let end_fits : SFits w64 (p +ℤ q) = omega (arith, ints) in
     let x_fits : SFits w64 x = omega (arith, ints) in
     let wanted_fits : SFits w64 (pos 10000 *ℤ x) = omega (arith, ints) in
-    let d : c.abs-diff.result ≡ nat_abs ((p +ℤ q) -ℤ pos 10000 *ℤ x) = simp to_z-of_z at c.abs-diff.ensures in
+    let d : c.abs_diff.result ≡ nat_abs ((p +ℤ q) -ℤ pos 10000 *ℤ x) = simp to_z-of_z at c.abs_diff.ensures in
     let e : p ≡ pos c.args.arm.first *ℤ c.args.first = simp to_z-of_z at c.scaled.ensures.value in
     let f : q ≡ pos c.args.arm.second *ℤ c.args.second = simp to_z-of_z at c.scaled-2.ensures.value in
     d ∙ ap (λ (z : ℤ). nat_abs ((z +ℤ q) -ℤ pos 10000 *ℤ x)) e ∙ ap (λ (z : ℤ). nat_abs ((pos c.args.arm.first *ℤ c.args.first +ℤ z) -ℤ pos 10000 *ℤ x)) f

@@ -10,8 +10,8 @@ plain n z h k =
     let small : n < 2 ^ 63 = omega arith in
     simp (to_z_pos, to_z-of_z) refl
 
-pub overflow-mul-result : goal.overflow-mul-result
-overflow-mul-result c =
+pub overflow_mul-result : goal.overflow_mul-result
+overflow_mul-result c =
     let n = c.args.link in
     let z = c.args.part in
     let h : n < 2 ^ 16 = c.ranges.link.fits in

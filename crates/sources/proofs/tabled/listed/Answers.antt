@@ -6,4 +6,4 @@ use Rattle.sources.specs.Files.{pose_of}
 use Rattle.sources.proofs.tabled.listed.Goals as goal
 
 pub returns : goal.returns
-returns c = c.pose-count.ensures ∙ sym (length-map (poses_in (view c.args.job.now) c.args.waypoint) pose_of)
+returns c = c.pose_count.ensures ∙ sym (length-map (poses_in (view c.args.job.now) c.args.waypoint) pose_of)

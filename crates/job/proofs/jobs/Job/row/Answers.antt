@@ -6,8 +6,8 @@ use Rattle.job.proofs.jobs.Job.row.Goals as goal
 pub returns-then-w-len : goal.returns-then-w-len
 returns-then-w-len c = sym (slice_get_past _ c.args.w (omega (arith, c.len.ensures, c.if-w-len.true)))
 
-pub bounds_self_w : goal.bounds-self-w
-bounds_self_w c =
+pub bounds-self-w : goal.bounds-self-w
+bounds-self-w c =
     let j = c.args.self.now in
     let full : length j.table ≡ 128 = search rules in
     omega (arith, c.len.ensures, c.if-w-len.false, full, rows_used j.file.now j.table j.len)

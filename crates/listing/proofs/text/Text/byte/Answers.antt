@@ -11,4 +11,4 @@ returns c =
       | then-at-self w ↦ ap (λ s. s.out.now) w.self-is
       | else-at-self w ↦ ap (λ s. s.out.now) w.self-is ∙ sym (set_past t.out.now t.len c.args.b w.if-at-self.false)
     ] in
-    record { lender = after; wrote = record { within = λ h. (omega (arith, h, c.saturating-add-self.ensures), bytes) } }
+    record { lender = after; wrote = record { within = λ h. (omega (arith, h, c.saturating_add-self.ensures), bytes) } }

@@ -38,7 +38,7 @@ returns-then-n-gt16 g c =
 pub returns : goal.returns
 returns g c =
     let k = c.args.self.now.core in
-    let m = c.append-from.new.self in
+    let m = c.append_from.new.self in
     let rules = g.C.Cost.rules in
     let source = c.count-n.new.self in
     let list = g.S.Source.meaning c.args.source.now c.args.waypoint in
@@ -47,13 +47,13 @@ returns g c =
     let n = c.count-n.ensures.value in
     let some : 0 < length list = omega (arith, n, c.if-n-eq0.false) in
     let few : length list ≤ 16 = omega (arith, n, c.if-n-gt16.false) in
-    let grown : c.append-from.result ≡ length (book k).rungs + 1 = omega (arith, l, c.append-from.ensures.count.0) in
+    let grown : c.append_from.result ≡ length (book k).rungs + 1 = omega (arith, l, c.append_from.ensures.count.0) in
     record {
       outcome = λ s.
-          let f = c.append-from.ensures.effect (omega (arith, some, ap length same_list)) (filled_of rules k m list c.append-from.ensures.grown s c.if-self.false) in
-          let after : book m ≡ with_rung (book k) list = add_book rules k m list c.append-from.ensures.grown (f.1 ∙ ap (λ ps. ps ∷ ladder (tables_of rules k) k.rungs) same_list) in (
-            add_sound rules k m list c.append-from.ensures.grown s c.if-self.false f.0,
+          let f = c.append_from.ensures.effect (omega (arith, some, ap length same_list)) (filled_of rules k m list c.append_from.ensures.grown s c.if-self.false) in
+          let after : book m ≡ with_rung (book k) list = add_book rules k m list c.append_from.ensures.grown (f.1 ∙ ap (λ ps. ps ∷ ladder (tables_of rules k) k.rungs) same_list) in (
+            add_sound rules k m list c.append_from.ensures.grown s c.if-self.false f.0,
             (λ i. record { answer = counted (grown i); output = []; book = after i }) ∙ adding_done (book k) list (length (book k).rungs + 1) (add_done (book k) list c.if-self.false (omega (arith, l, c.if-self-2.false)) some few),
           );
-      same = c.append-from.ensures.same ∙ c.count-n.ensures.same;
+      same = c.append_from.ensures.same ∙ c.count-n.ensures.same;
     }

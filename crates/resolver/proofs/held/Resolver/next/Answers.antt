@@ -4,9 +4,9 @@ use Rattle.resolver.specs.Answers.{track_answer}
 use Rattle.resolver.proofs.Unready.{next_unready}
 use Rattle.resolver.proofs.held.Resolver.next.Goals as goal
 
-pub returns-in-err-ready : goal.returns-in-err-ready
-returns-in-err-ready g c = record {
+pub returns-in_err-ready : goal.returns-in_err-ready
+returns-in_err-ready g c = record {
   outcome = λ s.
-      let p = err_from_is_err_and c.from-residual.result c.from-residual.ensures.1 in
-      (s, rw (p.1, p.2) (next_unready g.C.Cost.rules c.args.self.now.core c.args.out.now c.in-err-ready.field-0.0 c.in-err-ready.ensures));
+      let p = err_from_is_err_and c.from_residual.result c.from_residual.ensures.1 in
+      (s, rw (p.1, p.2) (next_unready g.C.Cost.rules c.args.self.now.core c.args.out.now c.in_err-ready.field-0.0 c.in_err-ready.ensures));
 }

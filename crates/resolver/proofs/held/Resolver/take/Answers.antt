@@ -22,12 +22,12 @@ returns-then-self g c = record {
 pub returns-in-Some : goal.returns-in-Some
 returns-in-Some g c =
     let k = c.args.self.now.core in
-    let m = c.take-next.new.self in
+    let m = c.take_next.new.self in
     let t = c.in-Some.ensures in
     record {
       outcome = λ s.
           let f = t.effect s c.requires.0 in
-          (f.0, next_one g.C.Cost.rules g.met.C.Cost.lawful k m (bounds_of c.args.self.now) t.kept c.args.out.now c.take-next.new.out c.in-Some.taken c.requires.0 c.requires.1 (omega (arith, c.if-self.false)) f.1 f.2);
+          (f.0, next_one g.C.Cost.rules g.met.C.Cost.lawful k m (bounds_of c.args.self.now) t.kept c.args.out.now c.take_next.new.out c.in-Some.taken c.requires.0 c.requires.1 (omega (arith, c.if-self.false)) f.1 f.2);
       kept = t.kept;
       counts = t.counts;
     }
@@ -35,12 +35,12 @@ returns-in-Some g c =
 pub returns-in-None : goal.returns-in-None
 returns-in-None g c =
     let k = c.args.self.now.core in
-    let m = c.take-next.new.self in
+    let m = c.take_next.new.self in
     let t = c.in-None.ensures in
     record {
       outcome = λ s.
           let f = t.effect s c.requires.0 in
-          (f.0, next_none g.C.Cost.rules g.met.C.Cost.lawful k m (bounds_of c.args.self.now) t.kept c.args.out.now c.take-next.new.out c.requires.0 c.requires.1 (omega (arith, c.if-self.false)) f.1 f.2);
+          (f.0, next_none g.C.Cost.rules g.met.C.Cost.lawful k m (bounds_of c.args.self.now) t.kept c.args.out.now c.take_next.new.out c.requires.0 c.requires.1 (omega (arith, c.if-self.false)) f.1 f.2);
       kept = t.kept;
       counts = tt;
     }

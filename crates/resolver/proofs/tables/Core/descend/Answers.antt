@@ -34,8 +34,8 @@ loop-at-preserved g c =
           path_goes_down w t r v path (at - 1) c.in-Some.u (omega (arith, c.loop-at.auto.path, length-set c.args.path.now r c.args.v, c.requires.1.1)) backed (omega (arith, c.loop-at.invariant.0, above)) (subst (λ z. Some c.in-Some.u ≡ needed_at t z (path_at path z).0) above said) (subst (λ z. PathDown t r v path z) above down),
     )
 
-pub returns-in-default : goal.returns-in-default
-returns-in-default g c =
+pub returns-in_default : goal.returns-in_default
+returns-in_default g c =
     let k = c.args.self.now in
     let t = tables_of g.C.Cost.rules k in
     let r = c.args.r in
@@ -47,7 +47,7 @@ returns-in-default g c =
           let down = c.loop-at.invariant.1 c.args.v (get_or-set_same c.args.path.now r c.args.v (record { 0 = 0 }) c.requires.1.1) numbered backed in
           let pose = down.numbered at (omega arith) c.loop-at.invariant.0 in
           let few : (path_at path at).0 < 16 = omega (arith, pose, backed.few at c.loop-at.invariant.0) in
-          (down, sym (c.needed.ensures few (backed_readable (width k) t r at (path_at path at).0 backed c.loop-at.invariant.0 pose)) ∙ c.in-default.is);
+          (down, sym (c.needed.ensures few (backed_readable (width k) t r at (path_at path at).0 backed c.loop-at.invariant.0 pose)) ∙ c.in_default.is);
     }
 
 pub returns : goal.returns

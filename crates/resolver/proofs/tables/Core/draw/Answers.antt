@@ -22,7 +22,7 @@ returns-in-Some g c =
     let r = c.args.r in
     let v = c.args.v.0 in
     let xs = k.candidates.now in
-    let ys = c.draw-part.new.table in
+    let ys = c.draw_part.new.table in
     let x = c.in-Some.x in
     let e = c.in-Some.ensures in
     let s = c.station-s.result in
@@ -31,14 +31,14 @@ returns-in-Some g c =
       same = search rules;
       effect = λ few all more.
           let S = station_at k r v in
-          let i = c.station-place-i.ensures.is few in
+          let i = c.station_place-i.ensures.is few in
           let same = c.station-s.ensures few in
-          let part : (l : List (Candidate g.row.C.Denot)) → between (16 * c.station-place-i.result) (16 * c.station-place-i.result + 16) l ≡ between (16 * (16 * r + v)) (16 * (16 * r + v) + 16) l = λ l. ap (λ j. between (16 * j) (16 * j + 16) l) i in
+          let part : (l : List (Candidate g.row.C.Denot)) → between (16 * c.station_place-i.result) (16 * c.station_place-i.result + 16) l ≡ between (16 * (16 * r + v)) (16 * (16 * r + v) + 16) l = λ l. ap (λ j. between (16 * j) (16 * j + 16) l) i in
           let held : c.min-n.result ≡ S.waiting = omega (arith, c.min-n.ensures, ap (λ t. t.waiting) same, all) in
           let below = subst (λ j. take (16 * j) ys ≡ take (16 * j) xs) i e.below in
           let above = subst (λ j. drop (16 * j + 16) ys ≡ drop (16 * j + 16) xs) i e.above in
-          let less : c.saturating-sub.result ≡ S.waiting - 1 = omega (arith, c.saturating-sub.ensures, held) in
-          let is = drained_read s S c.saturating-sub.result same less in
+          let less : c.saturating_sub.result ≡ S.waiting - 1 = omega (arith, c.saturating_sub.ensures, held) in
+          let is = drained_read s S c.saturating_sub.result same less in
           let sl : ℕ → ℕ → List (Candidate g.row.C.Denot) = λ q u. between (16 * (16 * q + u)) (16 * (16 * q + u) + 16) ys in (
             Some x,
             draws rules (width k) (tables_of rules k) (tables_of rules m) r v few sl _ is x
@@ -52,25 +52,25 @@ pub returns-in-None : goal.returns-in-None
 returns-in-None g c =
     let rules = g.C.Cost.rules in
     let k = c.args.self.now in
-    let m = c.put-station.new.self in
+    let m = c.put_station.new.self in
     let r = c.args.r in
     let v = c.args.v.0 in
-    let ys = c.draw-part.new.table in
+    let ys = c.draw_part.new.table in
     let e = c.in-None.ensures.inside in
     let s = c.station-s.result in
     record {
-      bounds = c.put-station.ensures.bounds;
+      bounds = c.put_station.ensures.bounds;
       same = search rules;
       effect = λ few all more.
           let S = station_at k r v in
           let same = c.station-s.ensures few in
           let held : c.min-n.result ≡ S.waiting = omega (arith, c.min-n.ensures, ap (λ t. t.waiting) same, all) in
-          let less : c.saturating-sub.result ≡ S.waiting - 1 = omega (arith, c.saturating-sub.ensures, held) in
+          let less : c.saturating_sub.result ≡ S.waiting - 1 = omega (arith, c.saturating_sub.ensures, held) in
           let sl : ℕ → ℕ → List (Candidate g.row.C.Denot) = λ q u. between (16 * (16 * q + u)) (16 * (16 * q + u) + 16) ys in (
             None,
-            settles rules (width k) (tables_of rules k) (tables_of rules m) r v few sl _ (drained_read s S c.saturating-sub.result same less)
+            settles rules (width k) (tables_of rules k) (tables_of rules m) r v few sl _ (drained_read s S c.saturating_sub.result same less)
                 (λ q u. ap (between (16 * (16 * q + u)) (16 * (16 * q + u) + 16)) e.1)
                 (sym held ∙ e.0)
-                (c.put-station.ensures.effect few),
+                (c.put_station.ensures.effect few),
           );
     }

@@ -4,8 +4,8 @@ use Rattle.resolver.specs.Tables.{tables_of, width}
 use Rattle.resolver.proofs.Entering.{unchanged, entering}
 use Rattle.resolver.proofs.tables.Core.enter.Goals as goal
 
-pub returns-in-default : goal.returns-in-default
-returns-in-default g c =
+pub returns-in_default : goal.returns-in_default
+returns-in_default g c =
     let rules = g.C.Cost.rules in
     let k = c.args.self.now in
     let t = tables_of rules k in
@@ -13,7 +13,7 @@ returns-in-default g c =
       bounds = c.requires.0;
       same = search rules;
       effect = λ p above few room lt posed.
-          entering rules t k.limits p c.args.v.0 c.args.at.0 (width k) t None (sym c.in-default.is ∙ c.candidate.ensures p above few lt posed) (unchanged (width k) t);
+          entering rules t k.limits p c.args.v.0 c.args.at.0 (width k) t None (sym c.in_default.is ∙ c.candidate.ensures p above few lt posed) (unchanged (width k) t);
     }
 
 pub returns : goal.returns

@@ -13,12 +13,12 @@ loop-u-preserved g c =
     let rules = g.C.Cost.rules in
     let k = c.args.self.now in
     let inv = c.loop-u.invariant in (
-      c.enter-from.ensures.bounds,
+      c.enter_from.ensures.bounds,
       search rules,
       λ p is h.
           let below : c.args.r - 1 ≡ p = omega (arith, is) in
           let inside = subst (λ z. c.loop-u.u < (tables_of rules k).size z) below c.loop-u-test.true in
-          enters_more rules g.met.C.Cost.lawful k c.loop-u.self c.enter-from.new.self inv.0 inv.1 c.args.r c.args.v.0 (omega (arith, inv.1.rung_limit, c.requires)) p c.loop-u.u is inside c.enter-from.ensures.effect (inv.2 p is h),
+          enters_more rules g.met.C.Cost.lawful k c.loop-u.self c.enter_from.new.self inv.0 inv.1 c.args.r c.args.v.0 (omega (arith, inv.1.rung_limit, c.requires)) p c.loop-u.u is inside c.enter_from.ensures.effect (inv.2 p is h),
     )
 
 pub returns : goal.returns

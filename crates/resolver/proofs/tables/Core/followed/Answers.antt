@@ -12,4 +12,4 @@ returns g c few =
     let rank = c.args.back.rank.0 in
     let found = c.station.result.found in
     let fits : found < 65536 = omega arith in
-    stopped (rank + 1) c.saturating-add.result found fits c.saturating-add.ensures ∙ ap (λ (s : Station). ltb (rank + 1) s.found) (c.station.ensures few)
+    stopped (rank + 1) c.saturating_add.result found fits c.saturating_add.ensures ∙ ap (λ (s : Station). ltb (rank + 1) s.found) (c.station.ensures few)

@@ -4,9 +4,9 @@ use Rattle.resolver.specs.Tables.{tables_of, width}
 use Rattle.resolver.proofs.Pending.{needed_none, needed_some}
 use Rattle.resolver.proofs.tables.Core.needed.Goals as goal
 
-pub returns-in-default : goal.returns-in-default
-returns-in-default g c few readable =
-    needed_none (tables_of g.C.Cost.rules c.args.self.now) c.args.r c.args.v.0 (sym c.in-default.is ∙ c.pending.ensures.value few readable)
+pub returns-in_default : goal.returns-in_default
+returns-in_default g c few readable =
+    needed_none (tables_of g.C.Cost.rules c.args.self.now) c.args.r c.args.v.0 (sym c.in_default.is ∙ c.pending.ensures.value few readable)
 
 pub returns-then-followed : goal.returns-then-followed
 returns-then-followed g c few readable =

@@ -6,7 +6,7 @@ use Rattle.resolver.proofs.tables.Core.open.Goals as goal
 pub returns : goal.returns
 unfolding ladder_in
 returns g c =
-    let f = c.fitted-rung-limit.ensures in
+    let f = c.fitted-rung_limit.ensures in
     record {
       bounds = record {
         shoulder = omega arith;

@@ -3,9 +3,9 @@ use Rattle.resolver.proofs.tables.Core.renew.Goals as goal
 
 pub returns-in-Some : goal.returns-in-Some
 returns-in-Some g c =
-    let e = c.find-next.ensures in
+    let e = c.find_next.ensures in
     record {
       bounds = e.bounds;
       same = e.same;
-      effect = renewed g.C.Cost.rules c.args.self.now c.find-next.new.self c.requires.0 e.same c.args.r c.in-Some.v c.in-Some.is e.effect;
+      effect = renewed g.C.Cost.rules c.args.self.now c.find_next.new.self c.requires.0 e.same c.args.r c.in-Some.v c.in-Some.is e.effect;
     }

@@ -7,11 +7,11 @@ use Rattle.resolver.proofs.tables.Core.settle.Goals as goal
 pub returns-then-r-gt0 : goal.returns-then-r-gt0
 returns-then-r-gt0 g c =
     let rules = g.C.Cost.rules in
-    let all = c.enter-all.ensures in
+    let all = c.enter_all.ensures in
     record {
       bounds = c.draw.ensures.bounds;
       same = search rules;
-      effect = settles_above rules g.met.C.Cost.lawful c.args.self.now c.enter-all.new.self c.draw.new.self all.bounds all.same c.args.r c.args.v.0 (omega (arith, all.same.rung_limit, c.requires)) c.if-r-gt0.true all.effect c.draw.ensures.effect;
+      effect = settles_above rules g.met.C.Cost.lawful c.args.self.now c.enter_all.new.self c.draw.new.self all.bounds all.same c.args.r c.args.v.0 (omega (arith, all.same.rung_limit, c.requires)) c.if-r-gt0.true all.effect c.draw.ensures.effect;
     }
 
 pub returns : goal.returns
