@@ -1,9 +1,12 @@
 // Adding, closing, next and seeking.
-ghost use Rattle.std.specs.Prelude.{◌≡◌, ◌+◌, ◌<◌, ◌≤◌, true, false, length, MatchResult, OnOk};
-ghost use Rattle.resolver.specs.Sound.{SetupKept};
+ghost use Rattle.std.specs.Prelude.{◌≡◌, ◌+◌, ◌<◌, ◌≤◌, true, false, [], length, MatchResult, OnOk};
+ghost use Rattle.book.specs.Book.{adding, closing, nexting};
+ghost use Rattle.resolver.specs.Sound.{Sound, SetupKept};
+ghost use Rattle.resolver.specs.Answers.{count_answer, track_answer};
 ghost use Rattle.resolver.specs.Adding.{AddsRung, GrownByARung};
 ghost use Rattle.resolver.specs.Bounds.{Bounds};
-ghost use Rattle.resolver.specs.Calls.{Makes, Unready, added, closed_so, nexted, sought};
+ghost use Rattle.resolver.specs.Calls.{Makes, Unready, nexted, sought};
+ghost use Rattle.resolver.specs.Standing.{book};
 
 use crate::answers::{Refusal, Taken};
 use crate::held::Resolver;
@@ -44,7 +47,7 @@ impl<'t, C: Cost> Core<'t, C> {
 impl<'t, C: Cost> Resolver<'t, C> {
     // Adds a rung that holds the source's list at the waypoint; answers the new rung count.
     pub fn add<S: Source>(&mut self, source: &mut S, waypoint: u16) -> Result<usize, Refusal>
-        ensures outcome { Makes C.Cost.rules self.old.core (added (S.Source.meaning source.old waypoint) result) self.new.core }
+        ensures outcome { Sound C.Cost.rules self.old.core → Sound C.Cost.rules self.new.core × (record { answer = count_answer {V = C} result; output = []; book = book self.new.core } ≡ adding (book self.old.core) (S.Source.meaning source.old waypoint)) }
         ensures same { S.Source.meaning source.new ≡ S.Source.meaning source.old }
     {
         if self.core.closed {
@@ -69,7 +72,8 @@ impl<'t, C: Cost> Resolver<'t, C> {
 
     // Closes the ladder; answers the rung count.
     pub fn close(&mut self) -> Result<usize, Refusal>
-        ensures outcome { Makes C.Cost.rules self.old.core (closed_so result) self.new.core }
+        ensures outcome { record { answer = count_answer {V = C} result; output = []; book = book self.new.core } ≡ closing (book self.old.core) }
+        ensures sound { Sound C.Cost.rules self.old.core → Sound C.Cost.rules self.new.core }
     {
         if self.core.closed {
             return Err(Refusal::Closed);
@@ -109,7 +113,7 @@ impl<'t, C: Cost> Resolver<'t, C> {
 
     // Takes the first untaken track of the list: answers its number and cost, and writes its steps to the first places of `out`.
     pub fn next(&mut self, out: &mut [Step]) -> Result<Taken<C>, Refusal>
-        ensures outcome { Makes C.Cost.rules self.old.core (nexted out.old result out.new) self.new.core }
+        ensures outcome { Sound C.Cost.rules self.old.core → Sound C.Cost.rules self.new.core × (record { answer = track_answer result; output = out.new; book = book self.new.core } ≡ nexting C.Cost.rules (book self.old.core) out.old) }
     {
         self.ready(out.len())?;
         self.take(out)

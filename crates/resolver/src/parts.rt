@@ -9,7 +9,7 @@ use heap::{Heap, Ordered};
 fn enter<T: Ordered>(slots: &mut [T], len: usize, x: T) -> usize
     requires { len ≤ length slots.old }
     ensures fits { result ≤ length slots.old }
-    ensures done { len < length slots.old → Pushed valid before slots.old len x slots.new result }
+    ensures done { len < length slots.old → Pushed T.valid T.before slots.old len x slots.new result }
 {
     let mut waiting = Heap::over(slots, len);
     let _ = waiting.push(x);
@@ -19,7 +19,7 @@ fn enter<T: Ordered>(slots: &mut [T], len: usize, x: T) -> usize
 // Takes the least of the heap that the first `len` of `slots` are.
 fn draw<T: Ordered>(slots: &mut [T], len: usize) -> Option<T>
     requires { len ≤ length slots.old }
-    ensures { MatchOption result ((len ≡ 0) × (slots.new ≡ slots.old)) (λ x. Popped valid before slots.old len x slots.new (len - 1)) }
+    ensures { MatchOption result ((len ≡ 0) × (slots.new ≡ slots.old)) (λ x. Popped T.valid T.before slots.old len x slots.new (len - 1)) }
 {
     let mut waiting = Heap::over(slots, len);
     waiting.pop()
@@ -31,7 +31,7 @@ pub(crate) fn enter_part<T: Ordered>(table: &mut [T], a: usize, b: usize, len: u
     ensures fits { result ≤ b - a }
     ensures below { take a table.new ≡ take a table.old }
     ensures above { drop b table.new ≡ drop b table.old }
-    ensures inside { len < b - a → Pushed valid before (between a b table.old) len x (between a b table.new) result }
+    ensures inside { len < b - a → Pushed T.valid T.before (between a b table.old) len x (between a b table.new) result }
 {
     enter(&mut table[a..b], len, x)
 }
@@ -41,7 +41,7 @@ pub(crate) fn draw_part<T: Ordered>(table: &mut [T], a: usize, b: usize, len: us
     requires { (a ≤ b) × ((b ≤ length table.old) × (len ≤ b - a)) }
     ensures below { take a table.new ≡ take a table.old }
     ensures above { drop b table.new ≡ drop b table.old }
-    ensures inside { MatchOption result ((len ≡ 0) × (table.new ≡ table.old)) (λ x. Popped valid before (between a b table.old) len x (between a b table.new) (len - 1)) }
+    ensures inside { MatchOption result ((len ≡ 0) × (table.new ≡ table.old)) (λ x. Popped T.valid T.before (between a b table.old) len x (between a b table.new) (len - 1)) }
 {
     draw(&mut table[a..b], len)
 }

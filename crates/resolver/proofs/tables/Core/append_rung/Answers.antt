@@ -29,7 +29,19 @@ returns g c =
     let inv = c.loop-v.invariant in
     let all : c.loop-v.v ≡ length ps = omega (arith, c.loop-v-test.false, c.loop-v.auto.v-end) in
     record {
-      bounds = search rules;
+      bounds =
+          let b = inv.0 in
+          record {
+            shoulder = b.shoulder;
+            elbow = b.elbow;
+            limited = b.limited;
+            rationed = b.rationed;
+            held = omega (arith, inv.1.rung_limit, c.place.ensures.same.rung_limit, c.requires);
+            drawn = b.drawn;
+            stations = b.stations;
+            ranked = b.ranked;
+            candidates = b.candidates;
+          };
       count = search rules;
       grown = search rules;
       effect = adds_rung rules k a c.loop-v.self c.place.ensures.same ps c.requires.1.1 c.place.ensures.effect (λ h.

@@ -33,7 +33,7 @@ returns g c =
     let e : k.rungs ≡ suc r = omega (arith, c.if-self-eq0.false) in
     let v = c.in-Some.v in
     let t = c.count_taken-number.ensures.kept in
-    let wide : length m.counts ≡ 16 = search rules in
+    let wide : length m.counts ≡ 16 = c.count_taken-number.ensures.wide in
     record {
       bounds = c.count_taken-number.ensures.bounds;
       kept = record { limits = t.limits ∙ s.limits; rung_limit = t.rung_limit ∙ s.rung_limit; ration = t.ration ∙ s.ration; rungs = t.rungs ∙ s.rungs; closed = t.closed ∙ s.closed };
