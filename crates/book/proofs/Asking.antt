@@ -1,10 +1,9 @@
 -- What is promised of asking for a track. Assumes nothing.
-use Rattle.std.proofs.Common.{◌≡◌, ℕ, zero, suc, ◌+◌, ◌-◌, ◌<◌, ◌≤◌, Bool, true, false, cond, ◌||◌, eqb, ltb, leb, ◌⊎◌, ◌↔◌, List, [], ◌∷◌, ◌++◌, length, get_or, drop, sym, refl, ap, ◌∙◌, subst, inl, inr, arith}
+use Rattle.std.proofs.Common.{◌≡◌, ℕ, zero, suc, ◌+◌, ◌-◌, ◌<◌, ◌≤◌, Bool, true, false, cond, eqb, ltb, leb, ◌⊎◌, List, [], ◌∷◌, length, get_or, drop, sym, refl, ap, ◌∙◌, subst, inl, inr, arith}
 use Rattle.std.specs.Ordering.{is_le}
-use Rattle.std.specs.List.{AllByRecursion as All}
 use Rattle.std.proofs.lemmas.List.{length-drop, get_or-drop}
 use Rattle.std.proofs.ByRecursion.{All-drop, All-weaker, All-get_or}
-use Rattle.std.proofs.lemmas.Bool.{false≢true, ltb-true, ltb-false, leb-true, leb-false, lt-ltb, le-ltb, cases_order, cases_lt, cases_eq, eq-eqb, ne_eqb}
+use Rattle.std.proofs.lemmas.Bool.{false≢true, leb-true, leb-false, lt-ltb, le-ltb, cases_order, cases_lt, cases_eq, ne_eqb}
 use Rattle.ladder.specs.declared.poses.Step.{Step}
 use Rattle.ladder.specs.Rules.{Rules, Lawful, Reached}
 use Rattle.ladder.specs.Tracks.{Ladder, Track, Bounded, Admissible, steps, cost}
@@ -12,10 +11,10 @@ use Rattle.ladder.specs.Listed.{peel, tracks_of}
 use Rattle.ladder.proofs.Sorting.{ascending_less}
 use Rattle.ladder.proofs.Forward.{length_steps}
 use Rattle.ladder.proofs.Peeled.{reached, sound, less_cheaper, one_list}
-use Rattle.book.specs.Book.{Book, Outcome, Answer, given, refused, Filter, next, seek, written, judging, seeking, seeking_of, nexting}
-use Rattle.book.specs.Runs.{Event, TheList, taken_after, left_by, Ready, Left, Gives, held, Seeks, any, Nexts}
+use Rattle.book.specs.Book.{Book, Outcome, Answer, given, refused, Filter, written, judging, seeking}
+use Rattle.book.specs.Runs.{Event, TheList, taken_after, Ready, Left, Gives, held, Seeks, any, Nexts}
 use Rattle.book.proofs.Judging.{with_taken, last_judged, Long, Turned, Way, spent, ended, passed, Judged, judged}
-use Rattle.book.proofs.Questions.{apart, refused_is, not_given, refusal_leaves}
+use Rattle.book.proofs.Questions.{apart, not_given, refusal_leaves}
 
 given_is : {V : Type 0} {a : Answer V} {k m : ℕ} {v w : V} → a ≡ given k v → a ≡ given m w → (k ≡ m) × (v ≡ w)
 given_is {V} {a} {k} {m} {v} {w} x y = (cc, cc)

@@ -1,5 +1,5 @@
 -- Seeking, track by track. Assumes nothing.
-use Rattle.std.proofs.Common.{◌≡◌, ℕ, zero, suc, ◌+◌, ◌-◌, ◌<◌, ◌≤◌, Bool, true, false, cond, ltb, leb, List, [], ◌∷◌, ◌++◌, length, get_or, drop, sym, refl, ap, ◌∙◌, subst, arith, length-append, length-drop}
+use Rattle.std.proofs.Common.{◌≡◌, ℕ, zero, suc, ◌+◌, ◌<◌, ◌≤◌, Bool, true, false, cond, ltb, List, [], ◌∷◌, ◌++◌, length, get_or, drop, sym, refl, ap, ◌∙◌, arith, length-append, length-drop}
 use Rattle.std.specs.List.{AllByRecursion as All}
 use Rattle.std.proofs.lemmas.List.{drop_at}
 use Rattle.std.proofs.ByRecursion.{All-get_or}
@@ -7,7 +7,7 @@ use Rattle.std.proofs.lemmas.Bool.{ltb-true, ltb-false}
 use Rattle.ladder.specs.declared.poses.Step.{Step}
 use Rattle.ladder.specs.Rules.{Rules}
 use Rattle.ladder.specs.Tracks.{Ladder, Track, steps, cost}
-use Rattle.book.specs.Book.{Book, Outcome, Answer, given, refused, Filter, written, one_taken, judging}
+use Rattle.book.specs.Book.{Book, Outcome, given, refused, Filter, written, one_taken, judging}
 
 -- the book with n tracks taken
 abbrev pub with_taken : Book → ℕ → Book

@@ -1,13 +1,12 @@
 -- Every run keeps what is promised. Assumes nothing.
-use Rattle.std.proofs.Common.{◌≡◌, ℕ, ◌+◌, ◌<◌, ◌≤◌, Bool, true, false, cond, not, ltb, leb, List, [], ◌∷◌, length, sym, refl, ap, ◌∙◌, subst, arith}
+use Rattle.std.proofs.Common.{◌≡◌, ℕ, ◌+◌, ◌≤◌, Bool, true, false, cond, not, ltb, leb, List, [], ◌∷◌, length, sym, refl, ap, ◌∙◌, subst, arith}
 use Rattle.std.proofs.lemmas.Bool.{false≢true, ltb-true}
 use Rattle.ladder.specs.declared.poses.Step.{Step}
 use Rattle.ladder.specs.Rules.{Rules, Lawful}
 use Rattle.ladder.specs.Tracks.{Rung, Bounded}
 use Rattle.ladder.specs.Listed.{tracks_of}
-use Rattle.book.specs.Book.{Book, Outcome, Answer, counted, refused, accepted, Filter, Call, add, close, next, seek, with_rung, shut, adding, closing, nexting, seeking, outcome}
-use Rattle.book.specs.Runs.{Event, TheList, left_by, taken_after, brought, closes, any, Seeks, Kept, Promised, AsTheBook, New, RunsKeep}
-use Rattle.book.proofs.Judging.{with_taken}
+use Rattle.book.specs.Book.{Book, Outcome, counted, refused, accepted, Filter, Call, add, close, next, seek, with_rung, shut, nexting, seeking, outcome}
+use Rattle.book.specs.Runs.{Event, left_by, taken_after, brought, closes, any, Seeks, Kept, Promised, AsTheBook, New, RunsKeep}
 use Rattle.book.proofs.Questions.{adds, add_leaves, closes_it, close_leaves, asking_leaves}
 use Rattle.book.proofs.Asking.{the_list, seeks, nexts, took, Took}
 use Rattle.book.proofs.Seeking.{next_is_seek}

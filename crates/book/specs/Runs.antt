@@ -6,7 +6,7 @@ use Rattle.ladder.specs.declared.poses.Limits.{Limits}
 use Rattle.ladder.specs.Rules.{Rules}
 use Rattle.ladder.specs.Tracks.{Rung, Ladder, Track, Bounded, steps, cost}
 use Rattle.ladder.specs.Listed.{ListOf}
-use Rattle.book.specs.Book.{Book, Answer, fine, counted, given, refused, accepted, Outcome, Filter, Call, add, close, next, seek, written, outcome}
+use Rattle.book.specs.Book.{Book, Answer, fine, counted, given, refused, accepted, Filter, Call, add, close, next, seek, written, outcome}
 
 -- a call of a run, what it answered, and what its output held then (nothing where it has none)
 pub record Event (V : Type 0) : Type 0 where

@@ -1,4 +1,6 @@
 // The plain book of a resolver, by which its calls are specified.
+#![tactic(auto)]
+
 ghost use Rattle.book.specs.Cases.{Worked};
 ghost use Rattle.book.specs.Runs.{RunsKeep};
 

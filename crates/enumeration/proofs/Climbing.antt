@@ -1,5 +1,5 @@
 -- The search goes down to where it can begin and climbs back, one rank on each rung. Assumes nothing.
-use Rattle.std.proofs.Common.{◌≡◌, ℕ, zero, suc, ◌+◌, ◌<◌, ◌≤◌, Bool, true, false, cond, ltb, ◌⊎◌, List, [], ◌∷◌, length, get_or, Some, None, MatchBool, Option, sym, refl, ap, ◌∙◌, subst, inl, inr, ⊎_elim, arith}
+use Rattle.std.proofs.Common.{◌≡◌, ℕ, zero, suc, ◌+◌, ◌<◌, ◌≤◌, Bool, true, false, cond, ◌⊎◌, length, Some, None, MatchBool, Option, sym, refl, ap, ◌∙◌, subst, inl, inr, ⊎_elim, arith}
 use Rattle.std.proofs.lemmas.Bool.{ltb-true, ltb-false, cases_eq}
 use Rattle.ladder.specs.declared.poses.PoseNumber.{PoseNumber}
 use Rattle.ladder.specs.declared.poses.Limits.{Limits}
@@ -11,12 +11,12 @@ use Rattle.enumeration.specs.declared.records.Station.{Station}
 use Rattle.enumeration.specs.declared.records.Ranked.{Ranked}
 use Rattle.enumeration.specs.declared.records.Back.{Back}
 use Rattle.enumeration.specs.Tables.{Tables, poses, ladder}
-use Rattle.enumeration.specs.Sound.{ends, Lies, Holds, last_back, PoseSound, RungSound, RungsSound, CandidatesSound}
-use Rattle.enumeration.specs.Changes.{Elsewhere, Unchanged, Draws}
+use Rattle.enumeration.specs.Sound.{ends, Lies, Holds, last_back, PoseSound, RungsSound, CandidatesSound}
+use Rattle.enumeration.specs.Changes.{Unchanged, Draws}
 use Rattle.enumeration.specs.Advancing.{Ready, EntersPending, MovedOn, Advances}
-use Rattle.enumeration.specs.Writes.{OneMore, Readable, Steady, Advanceable, Advanced, successor_found, needed_at}
+use Rattle.enumeration.specs.Writes.{Readable, Steady, Advanceable, Advanced, successor_found, needed_at}
 use Rattle.enumeration.specs.Taking.{LookedFor}
-use Rattle.enumeration.proofs.Frames.{PosesKept, elsewhere_poses, ladder_same, unchanged_elsewhere, length_poses, rung_kept, LiesBefore, grows_lies, block_same, fewer_kept}
+use Rattle.enumeration.proofs.Frames.{PosesKept, elsewhere_poses, ladder_same, unchanged_elsewhere, length_poses, rung_kept, LiesBefore, grows_lies, block_same}
 
 module _ {C P : Type 0} (c : Rules C P) (laws : Lawful c) (l : Limits) (b : Bounded l) (w n : ℕ) (few : n ≤ 128) where
   -- the last found track at a pose with a pending successor, and its front

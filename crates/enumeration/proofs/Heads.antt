@@ -1,7 +1,7 @@
 -- What is taken and offered at the poses of the last rung, over the calls. Assumes nothing.
-use Rattle.std.proofs.Common.{◌≡◌, ℕ, zero, suc, ◌+◌, ◌<◌, ◌≤◌, Bool, true, false, cond, eqb, ◌⊎◌, List, [], ◌∷◌, length, get_or, Some, None, Option, sym, refl, ap, ◌∙◌, subst, inl, inr, ⊎_elim, add-one, arith}
+use Rattle.std.proofs.Common.{◌≡◌, ℕ, zero, suc, ◌+◌, ◌<◌, ◌≤◌, Bool, true, false, cond, eqb, ◌⊎◌, ◌∷◌, length, Some, None, sym, refl, ap, ◌∙◌, subst, inl, inr, ⊎_elim, arith}
 use Rattle.std.proofs.lemmas.Bool.Decides.{eqb_tells}
-use Rattle.std.proofs.lemmas.Bool.{eq-eqb, ne_eqb, false≢true}
+use Rattle.std.proofs.lemmas.Bool.{eq-eqb}
 use Rattle.ladder.specs.declared.poses.Limits.{Limits}
 use Rattle.ladder.specs.Rules.{Rules}
 use Rattle.ladder.specs.Tracks.{Rung, Ladder}
@@ -11,7 +11,7 @@ use Rattle.enumeration.specs.declared.records.Station.{Station}
 use Rattle.enumeration.specs.Tables.{Tables, poses, ladder}
 use Rattle.enumeration.specs.Sound.{ends, RungSound, PoseSound}
 use Rattle.enumeration.specs.Filling.{Fresh}
-use Rattle.enumeration.specs.Taking.{IsRecent, Head, Heads, Offers, BestBelow, LookedFor}
+use Rattle.enumeration.specs.Taking.{Head, Heads, Offers, BestBelow, LookedFor}
 use Rattle.enumeration.proofs.Frames.{length_poses}
 
 -- only the counts of the poses that there are matter

@@ -1,16 +1,15 @@
 -- Reading a track back along its fronts gives its steps. Assumes nothing.
-use Rattle.std.proofs.Common.{◌≡◌, ℕ, zero, suc, ◌+◌, ◌<◌, ◌≤◌, List, [], ◌∷◌, ◌++◌, length, get_or, drop, set, sym, refl, ap, ◌∙◌, subst, append_assoc, arith, length-set, drop-cons}
+use Rattle.std.proofs.Common.{◌≡◌, ℕ, zero, suc, ◌<◌, List, [], ◌∷◌, ◌++◌, length, get_or, drop, set, sym, refl, ap, ◌∙◌, subst, append_assoc, arith, length-set, drop-cons}
 use Rattle.std.proofs.lemmas.List.{drop-set-lt, get_or-set_same}
 use Rattle.ladder.specs.declared.poses.Step.{Step}
 use Rattle.ladder.specs.declared.poses.Pose.{Pose}
 use Rattle.ladder.specs.declared.poses.Limits.{Limits}
 use Rattle.ladder.specs.Rules.{Rules, Lawful}
-use Rattle.ladder.specs.Tracks.{Track, Bounded, step_at, steps, steps_back, origin}
-use Rattle.ladder.specs.Ranking.{ending}
+use Rattle.ladder.specs.Tracks.{Track, Bounded, step_at, steps}
 use Rattle.ladder.proofs.Endings.{single}
 use Rattle.ladder.proofs.Forward.{steps_more}
 use Rattle.enumeration.specs.Tables.{Tables, poses, ladder}
-use Rattle.enumeration.specs.Sound.{ends, Lies, Holds, RungSound, RungsSound}
+use Rattle.enumeration.specs.Sound.{ends, RungsSound}
 use Rattle.enumeration.proofs.Frames.{pose_is_at, length_poses}
 
 module _ {C : Type 0} (t : Tables C) where

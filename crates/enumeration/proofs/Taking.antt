@@ -1,23 +1,21 @@
 -- The best of what the poses of the last rung offer is the next of the list. Assumes nothing.
-use Rattle.std.proofs.Common.{◌≡◌, ℕ, zero, suc, ◌+◌, ◌<◌, ◌≤◌, Bool, true, false, cond, ◌⊎◌, List, [], ◌∷◌, map, length, get_or, Some, None, Option, Ordering, Less, Equal, Greater, sym, refl, ap, ◌∙◌, subst, inl, inr, ⊎_elim, add-one, arith}
-use Rattle.std.specs.List.{range_with_len}
+use Rattle.std.proofs.Common.{◌≡◌, ℕ, suc, ◌<◌, ◌≤◌, true, false, ◌⊎◌, [], length, get_or, Some, None, Option, Ordering, Less, Equal, Greater, sym, refl, ap, ◌∙◌, subst, inl, inr, ⊎_elim, arith}
 use Rattle.std.specs.Ordering.{is_le, is_lt, ordering_then, nat_cmp}
-use Rattle.std.proofs.lemmas.List.FromFn.{length-map-range_with_len}
 use Rattle.std.proofs.lemmas.Bool.{false≢true}
 use Rattle.std.proofs.lemmas.Bool.Decides.{eqb_tells}
 use Rattle.ladder.specs.declared.poses.Limits.{Limits}
 use Rattle.ladder.specs.Rules.{Rules, Lawful, Reached}
-use Rattle.ladder.specs.Tracks.{Rung, Ladder, Track, Bounded, cost}
+use Rattle.ladder.specs.Tracks.{Bounded, cost}
 use Rattle.ladder.specs.Listed.{tracks_of}
-use Rattle.ladder.specs.Ranking.{ending, GivenOut, Left, EndsMerge, bumped, first_cost}
+use Rattle.ladder.specs.Ranking.{GivenOut, Left, EndsMerge, bumped, first_cost}
 use Rattle.ladder.proofs.Ends.{list_merges}
 use Rattle.ladder.proofs.Endings.{rank_reached}
 use Rattle.ladder.specs.Ranked.{Ranks, ranks_from_order, back, even, alike_right, self}
 use Rattle.ladder.specs.Numbers.{lt_rank, rank_self}
 use Rattle.enumeration.specs.Tables.{Tables, poses, ladder}
-use Rattle.enumeration.specs.Sound.{ends, Lies, Holds, RungSound, RungsSound}
+use Rattle.enumeration.specs.Sound.{ends, Lies, RungSound}
 use Rattle.enumeration.proofs.Frames.{length_poses, length_ladder}
-use Rattle.enumeration.specs.Taking.{IsRecent, Head, Heads, Offers, last_cost, AtMost, BestBelow}
+use Rattle.enumeration.specs.Taking.{Heads, Offers, last_cost, AtMost, BestBelow}
 
 module _ {C P : Type 0} (c : Rules C P) (laws : Lawful c) (l : Limits) (b : Bounded l) (t : Tables C) (r : ℕ) (few : suc r ≤ 128) (sound : RungSound c l t r) (taken : ℕ → ℕ) where
   -- the track found last at a pose that offers one: it has the rank that is taken next

@@ -1,14 +1,11 @@
 -- Which found track is the next of the list, and what taking it changes. Assumes nothing.
-use Rattle.std.specs.Prelude.{◌≡◌, ℕ, zero, suc, ◌+◌, ◌<◌, ◌≤◌, Bool, true, false, cond, ◌⊎◌, List, [], ◌∷◌, length, IfSome, Some, None, Option, ◌≢◌}
+use Rattle.std.specs.Prelude.{◌≡◌, ℕ, ◌+◌, ◌<◌, ◌≤◌, true, ◌⊎◌, length, IfSome, Some, None, Option, ◌≢◌}
 use Rattle.std.specs.Ordering.{is_le, ordering_then, nat_cmp}
 use Rattle.ladder.specs.declared.poses.Limits.{Limits}
 use Rattle.ladder.specs.Rules.{Rules}
-use Rattle.ladder.specs.Tracks.{Track, Bounded, cost}
-use Rattle.ladder.specs.Listed.{tracks_of}
 use Rattle.ladder.specs.Ranking.{GivenOut}
 use Rattle.enumeration.specs.Tables.{Tables, poses, ladder}
-use Rattle.enumeration.specs.Sound.{ends, Lies, RungsSound}
-use Rattle.enumeration.specs.Changes.{Elsewhere}
+use Rattle.enumeration.specs.Sound.{ends}
 
 -- for the last rung r; `taken v` counts the tracks taken at pose v
 module _ {C P : Type 0} (c : Rules C P) (l : Limits) (t : Tables C) (r : ℕ) (taken : ℕ → ℕ) where

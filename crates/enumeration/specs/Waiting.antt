@@ -1,5 +1,5 @@
 -- Candidates as the tables hold them. Assumes nothing.
-use Rattle.std.specs.Prelude.{ℕ, Bool, cond, Some, None, Option}
+use Rattle.std.specs.Prelude.{Bool, cond, Some, None, Option}
 use Rattle.std.specs.Ordering.{is_lt}
 use Rattle.ladder.specs.declared.poses.Pose.{Pose}
 use Rattle.ladder.specs.declared.poses.Limits.{Limits}

@@ -1,11 +1,11 @@
 -- The candidates that wait at one pose. Assumes nothing.
-use Rattle.std.specs.Prelude.{◌≡◌, ℕ, suc, ◌+◌, ◌<◌, ◌≤◌, cond, List, [], ◌∷◌, length, get_or, take, sum_by, Option, MatchOption, ◌==◌, slice_index_or}
+use Rattle.std.specs.Prelude.{◌≡◌, ℕ, ◌+◌, ◌<◌, ◌≤◌, cond, List, [], ◌∷◌, length, get_or, take, sum_by, Option, MatchOption, ◌==◌, slice_index_or}
 use Rattle.std.specs.List.{AllByRecursion as All}
 use Rattle.heap.specs.Order.{Stands}
 use Rattle.ladder.specs.declared.poses.Limits.{Limits}
 use Rattle.ladder.specs.Rules.{Rules}
 use Rattle.ladder.specs.Tracks.{Rung, Ladder}
-use Rattle.ladder.specs.Ranking.{ending, candidate, Emitted, Open, bumped}
+use Rattle.ladder.specs.Ranking.{ending, candidate, Emitted, Open}
 use Rattle.enumeration.specs.declared.records.Candidate.{Candidate}
 use Rattle.enumeration.specs.Waiting.{plain, ReachedBoth, earlier}
 

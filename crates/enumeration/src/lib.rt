@@ -1,4 +1,6 @@
 // The records that the resolver's tables hold, the order of candidates, and the theory of finding tracks rank by rank.
+#![tactic(auto)]
+
 mod records;
 mod theorems;
 mod waiting;

@@ -1,5 +1,5 @@
 -- One step more of a count of reversals. Assumes nothing.
-use Rattle.std.proofs.Common.{◌≡◌, ℕ, zero, suc, ◌+◌, ◌≤◌, Bool, true, false, cond, ◌&&◌, List, [], ◌∷◌, ℤ, pos, negsuc, ◌-ℤ◌, filter, sym, refl, ap, ◌∙◌, add-zero, add_assoc, zero-add, arith}
+use Rattle.std.proofs.Common.{◌≡◌, ℕ, zero, suc, ◌+◌, ◌≤◌, Bool, true, false, cond, List, [], ◌∷◌, ℤ, pos, negsuc, ◌-ℤ◌, filter, sym, refl, ap, ◌∙◌, add-zero, add_assoc, zero-add, arith}
 use lib.Signed.{lt_z}
 use Rattle.std.proofs.lemmas.Bool.{true≢false, and_right, or_from}
 use Rattle.filters.specs.Turning.{differences, moves, opposite, opposites}

@@ -1,5 +1,5 @@
 -- Cases worked by hand. Assumes nothing.
-use Rattle.std.specs.Prelude.{◌≡◌, ℕ, List, [], ◌∷◌, map, pos}
+use Rattle.std.specs.Prelude.{◌≡◌, ℕ, [], ◌∷◌, map, pos}
 use Rattle.ladder.specs.declared.poses.Step.{Step}
 use Rattle.filters.specs.Turning.{turned_back}
 

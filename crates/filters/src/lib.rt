@@ -1,4 +1,6 @@
 // Filters: a yes or no for each list of steps.
+#![tactic(auto)]
+
 mod cases;
 mod envelopes;
 mod judging;

@@ -1,10 +1,10 @@
 -- What a push and a pop do to the slots. Assumes nothing.
-use Rattle.std.proofs.Common.{◌≡◌, ℕ, ◌+◌, ◌-◌, ◌*◌, ◌<◌, ◌≤◌, Bool, true, false, List, [], ◌∷◌, ◌++◌, length, get_or, take, drop, set, sym, refl, ap, ◌∙◌, subst, arith, length-append, length-drop}
+use Rattle.std.proofs.Common.{◌≡◌, ℕ, ◌+◌, ◌-◌, ◌<◌, ◌≤◌, Bool, List, [], ◌∷◌, ◌++◌, length, get_or, take, drop, set, sym, refl, ap, ◌∙◌, subst, arith, length-append, length-drop}
 use Rattle.std.specs.List.Sorted.{IsPermutation}
 use Rattle.std.proofs.lemmas.List.{take_more, take_more_set, take_all, take_at, take-append-le, length-take-le, length-set, get_or-take, get_or-set_same, get_or-set_other, get_or_append_left, get_or_read, drop-set-lt}
 use Rattle.std.proofs.lemmas.Slice.{drop-append-drop}
-use Rattle.std.proofs.lemmas.List.Sorted.{IsPermutation-refl, IsPermutation-trans, IsPermutation-sym, IsPermutation-cons, IsPermutation-to_front, length_permutation}
-use Rattle.heap.specs.Order.{OrderOn, Valid, Heaped, Best, Least, Stands, Pushed, Popped}
+use Rattle.std.proofs.lemmas.List.Sorted.{IsPermutation-trans, IsPermutation-sym, IsPermutation-cons, IsPermutation-to_front, length_permutation}
+use Rattle.heap.specs.Order.{OrderOn, Valid, Heaped, Least, Stands, Pushed, Popped}
 use Rattle.heap.proofs.Sifts.{cases, Swap, valid_swap, least, Risen, Sunk}
 
 module _ {X : Type 0} (valid : X → Type 0) (before : X → X → Bool) where

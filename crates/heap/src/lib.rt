@@ -1,4 +1,6 @@
 // A binary heap over a lent slice of records, for every kind of record whose order is a total one on the records put in.
+#![tactic(auto)]
+
 ghost use Rattle.std.specs.Prelude.{◌≡◌, ℕ, ◌+◌, ◌-◌, ◌*◌, ◌<◌, ◌≤◌, Bool, true, false, ◌∷◌, length, take, MatchOption, MatchResult, slice_index_or};
 ghost use Rattle.std.specs.List.Sorted.{IsPermutation};
 ghost use Rattle.heap.specs.Order.{OrderOn, Valid, Heaped, Best, Least, Stands, Pushed, Popped, used};

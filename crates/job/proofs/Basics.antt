@@ -1,5 +1,5 @@
 -- The fields of a job file: bytes, numbers, parts and pose lists.
-use Rattle.std.proofs.Common.{◌≡◌, ℕ, zero, suc, ◌+◌, ◌-◌, ◌*◌, ◌/◌, ◌%◌, ◌<◌, ◌≤◌, Bool, true, false, cond, leb, List, [], ◌∷◌, ◌++◌, length, get_or, take, drop, replicate, ℤ, pos, sym, refl, ap, ◌∙◌, subst, ⊎_elim, append_assoc, add-zero, add_assoc, arith, w16, SFits, to_z, of_z}
+use Rattle.std.proofs.Common.{◌≡◌, ℕ, zero, suc, ◌+◌, ◌*◌, ◌/◌, ◌%◌, ◌<◌, ◌≤◌, Bool, true, false, cond, leb, List, [], ◌∷◌, ◌++◌, length, get_or, take, drop, replicate, ℤ, pos, sym, refl, ap, ◌∙◌, subst, ⊎_elim, add-zero, add_assoc, arith, w16, SFits, to_z, of_z}
 use mir.Facts.{sfits_to_z}
 use Rattle.std.specs.List.{flat_map, AllByRecursion as All}
 use Rattle.std.proofs.lemmas.List.{length-append, length-drop, length-take, length-take-le, take-append-drop, drop-drop, drop_more, take_at, get_or-take, get_or-drop, get_or_past, append-nil, drop_all, length-replicate}
@@ -9,9 +9,8 @@ use Rattle.std.proofs.lemmas.Int.{to_z-of_z, of_z-to_z}
 use Rattle.std.proofs.lemmas.Bool.{leb-true, le-leb, lt-leb, cases_lt}
 use Rattle.job.specs.declared.faults.Question.TheVariants.{Whole}
 use Rattle.job.specs.declared.values.Counts.{Counts}
-use Rattle.job.specs.Bytes.{byte_at, word_at, signed_word_at, pose_at, poses_at, poses_of_bytes, word_bytes, signed_bytes, pose_bytes}
-use Rattle.job.specs.Layout.{Piece, written}
-use Rattle.job.specs.Reading.{Out, got, fault, and_then, Read, whole, via}
+use Rattle.job.specs.Bytes.{byte_at, word_at, signed_word_at, poses_at, poses_of_bytes, word_bytes, signed_bytes, pose_bytes}
+use Rattle.job.specs.Reading.{got, fault, and_then, whole, via}
 use Rattle.job.proofs.Laws.{Bytes, fits_in, next}
 use Rattle.job.proofs.Fields.{Tested}
 

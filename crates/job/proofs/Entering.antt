@@ -1,12 +1,12 @@
 -- A record's fields entered into a row one by one.
-use Rattle.std.proofs.Common.{◌≡◌, ℕ, suc, ◌+◌, ◌<◌, ◌≤◌, List, [], ◌∷◌, ◌++◌, length, ℤ, IfSome, Some, None, Option, unwrap_or, sym, refl, ap, ◌∙◌, arith}
+use Rattle.std.proofs.Common.{◌≡◌, ℕ, List, [], ◌∷◌, ◌++◌, length, ℤ, IfSome, Some, None, Option, unwrap_or, sym, refl, ap, ◌∙◌, arith}
 use Rattle.std.specs.Option.{option_map, option_to_list}
 use Rattle.job.specs.declared.rows.Row.{Row}
 use Rattle.job.specs.declared.cursor.Part.{Part}
 use Rattle.job.specs.declared.records.Record.{Record}
 use Rattle.job.specs.declared.values.Position.{Position}
 use Rattle.job.specs.Bytes.{poses_of_bytes}
-use Rattle.job.specs.Resolved.{Waypoint, waypoint}
+use Rattle.job.specs.Resolved.{waypoint}
 use Rattle.job.specs.Rows.{row_v, entered}
 use Rattle.job.specs.Views.{Handed, an_x, a_y, a_list, a_note, unhanded, first_of, rest_of, part_v, record_v, Lies, Placed}
 

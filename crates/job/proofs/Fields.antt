@@ -1,14 +1,12 @@
 -- Single fields: their readers keep to their layout.
-use Rattle.std.proofs.Common.{◌≡◌, ℕ, zero, suc, ◌+◌, ◌*◌, ◌/◌, ◌%◌, ◌<◌, ◌≤◌, Bool, true, false, cond, leb, ◌⊎◌, List, [], ◌∷◌, ◌++◌, length, get_or, take, drop, Some, None, Option, sym, refl, ap, ◌∙◌, subst, inl, inr, ⊎_elim, append_assoc, add-zero, arith}
-use Rattle.std.specs.List.{AllByRecursion as All}
-use Rattle.std.proofs.lemmas.List.{length-append, length-drop, append-nil}
-use Rattle.std.proofs.lemmas.Bool.{leb-true, leb-false, le-leb, lt-leb, cond-true, cond-false, cases_lt, cases_Bool}
+use Rattle.std.proofs.Common.{◌≡◌, ℕ, ◌+◌, ◌≤◌, Bool, true, false, cond, ◌⊎◌, List, [], ◌∷◌, ◌++◌, length, drop, Some, None, sym, refl, ap, ◌∙◌, subst, inl, inr, ⊎_elim, add-zero, arith}
+use Rattle.std.proofs.lemmas.List.{append-nil}
+use Rattle.std.proofs.lemmas.Bool.{cond-true, cond-false}
 use Rattle.job.specs.declared.faults.Question.{Question}
-use Rattle.job.specs.declared.faults.Question.TheVariants.{Whole}
-use Rattle.job.specs.Layout.{Ask, Piece, has, written}
-use Rattle.job.specs.Reading.{Out, got, fault, and_then, Read, whole, only}
-use Rattle.job.proofs.Outs.{never, if_got, if_fault, then_got, then_fault, then_is, then_not}
-use Rattle.job.proofs.Laws.{Bytes, Answered, Stands, Stops, Lawful, field_no, fits_in}
+use Rattle.job.specs.Layout.{Piece, written}
+use Rattle.job.specs.Reading.{Out, got, fault, Read, only}
+use Rattle.job.proofs.Outs.{if_got, if_fault, then_got, then_fault, then_is, then_not}
+use Rattle.job.proofs.Laws.{Bytes, Stands, Stops, Lawful, field_no}
 
 -- a single field stands, or stops
 stand_one : (c : Piece) (s : List ℕ) (p q : ℕ) → q ≤ length s → q ≡ p + length c.bytes → drop p s ≡ c.bytes ++ drop q s → Stands (c ∷ []) s p q

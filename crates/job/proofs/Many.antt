@@ -1,14 +1,13 @@
 -- Reading the records in a loop: a turn, a refusal in a turn, and the end.
-use Rattle.std.proofs.Common.{◌≡◌, ℕ, zero, suc, ◌+◌, Bool, true, false, cond, eqb, List, [], ◌∷◌, ◌++◌, length, Some, None, Option, unwrap_or, sym, refl, ap, ◌∙◌, append_assoc, arith}
+use Rattle.std.proofs.Common.{◌≡◌, ℕ, suc, Bool, true, false, cond, eqb, List, [], ◌∷◌, ◌++◌, length, Some, None, Option, unwrap_or, sym, refl, ap, ◌∙◌, append_assoc, arith}
 use Rattle.std.specs.Option.{option_map}
 use Rattle.std.proofs.lemmas.Bool.{cond-true, eq-eqb}
-use Rattle.std.proofs.lemmas.List.{append-nil}
 use Rattle.job.specs.declared.faults.Question.{Question}
 use Rattle.job.specs.declared.values.Position.{Position}
 use Rattle.job.specs.declared.faults.Question.TheVariants.{End}
 use Rattle.job.specs.Contents.{Entry, Head}
 use Rattle.job.specs.Reading.{Out, got, fault, and_then, many, via, opt, entry, Read, heading, accepted}
-use Rattle.job.specs.Resolved.{Waypoint, Resolved, waypoint, waypoints, placed, origin, resolved, values_of}
+use Rattle.job.specs.Resolved.{Waypoint, waypoint, waypoints, placed, origin, resolved, values_of}
 
 abbrev pub prepend : {A : Type 0} → List A → Out (List A) → Out (List A)
 prepend l o = and_then o (λ m r. got (l ++ m) r)

@@ -1,6 +1,5 @@
 -- The letters, the maps, the header's fields and a record keep to the layout.
-use Rattle.std.proofs.Common.{◌≡◌, ℕ, zero, suc, ◌+◌, ◌*◌, ◌<◌, ◌≤◌, Bool, true, false, cond, not, ◌&&◌, ◌||◌, eqb, leb, List, [], ◌∷◌, ◌++◌, length, get_or, take, drop, ℤ, is_some, IfSome, Some, None, Option, sym, refl, ap, ◌∙◌, subst, ⊎_elim, add-zero, arith, w16, SFits}
-use lib.Bits.{bit_and}
+use Rattle.std.proofs.Common.{◌≡◌, ℕ, zero, suc, ◌+◌, ◌*◌, ◌<◌, ◌≤◌, Bool, true, false, not, ◌&&◌, ◌||◌, eqb, leb, List, [], ◌∷◌, length, get_or, take, drop, ℤ, is_some, IfSome, Some, None, Option, sym, refl, ap, ◌∙◌, subst, ⊎_elim, add-zero, arith, w16, SFits}
 use Rattle.std.specs.List.{flat_map, AllByRecursion as All}
 use Rattle.std.proofs.lemmas.List.{get_or-drop}
 use Rattle.std.proofs.lemmas.List.Prefix.{at_reads, at_from_reads}
@@ -9,14 +8,13 @@ use Rattle.job.specs.declared.faults.Question.TheVariants.{Letters, Map, Whole, 
 use Rattle.job.specs.declared.values.StepLimits.{StepLimits}
 use Rattle.job.specs.declared.values.Arm.{Arm}
 use Rattle.job.specs.declared.values.Counts.{Counts}
-use Rattle.job.specs.Bytes.{byte_at, word_at, signed_word_at, poses_of_bytes, word_bytes, signed_bytes, pose_bytes, between, stands, lacks, bit}
+use Rattle.job.specs.Bytes.{byte_at, word_at, poses_of_bytes, pose_bytes, between, stands, lacks, bit}
 use Rattle.job.specs.Contents.{Entry, Head}
-use Rattle.job.specs.Layout
-use Rattle.job.specs.Layout.{Piece, has, lettered, the_letters, a_map, a_word, a_number, a_signed, a_count, a_length, a_part, optional, entry_map, entry_pieces, head_map, head_pieces, written, EntryFits, HeadFits}
-use Rattle.job.specs.Reading.{Read, whole, only, opt, pair, under, via, byte, word, signed, chunk, ranged, poses, note, entry, to_entry, letters_at, letters, opening, limits, to_limits, arm, to_arm, ration, heading, to_head}
-use Rattle.job.proofs.Laws.{Bytes, Lawful, fits_opt, fits_in, lawful_again, under_lawful, via_lawful, opt_lawful, pair_lawful}
+use Rattle.job.specs.Layout.{has, lettered, the_letters, a_map, a_word, a_number, a_signed, a_count, a_length, a_part, entry_map, entry_pieces, head_map, head_pieces, EntryFits, HeadFits}
+use Rattle.job.specs.Reading.{only, via, byte, word, signed, chunk, ranged, poses, note, entry, to_entry, letters_at, letters, limits, to_limits, arm, to_arm, ration, heading, to_head}
+use Rattle.job.proofs.Laws.{Lawful, fits_opt, fits_in, lawful_again, under_lawful, via_lawful, opt_lawful, pair_lawful}
 use Rattle.job.proofs.Fields.{Tested, tested_lawful, only_lawful}
-use Rattle.job.proofs.Basics.{room, byte_tested, word_tested, signed_tested, part_tested, list_tested, part_at, list_at, PoseFits, length_spelled, via_whole}
+use Rattle.job.proofs.Basics.{room, byte_tested, word_tested, signed_tested, part_tested, list_tested, PoseFits, length_spelled, via_whole}
 
 abbrev tlad : List ℕ
 tlad = 84 ∷ (76 ∷ (65 ∷ (68 ∷ [])))

@@ -1,5 +1,5 @@
 -- The header and a single record, in the words of the layout.
-use Rattle.std.proofs.Common.{◌≡◌, ℕ, ◌+◌, ◌<◌, ◌≤◌, Bool, true, false, cond, ltb, leb, List, [], ◌∷◌, ◌++◌, length, take, drop, Some, None, Ok, Err, Option, Result, sym, refl, ap, ◌∙◌, subst, ⊎_elim, add-zero, arith}
+use Rattle.std.proofs.Common.{◌≡◌, ℕ, ◌+◌, ◌<◌, ◌≤◌, Bool, true, false, cond, ltb, leb, List, ◌∷◌, length, take, drop, Some, None, Ok, Err, Option, Result, sym, refl, ap, ◌∙◌, subst, ⊎_elim, arith}
 use Rattle.std.specs.Option.{option_map}
 use Rattle.std.specs.List.{AllByRecursion as All}
 use Rattle.std.proofs.lemmas.List.{take_at, drop_all}
@@ -13,11 +13,11 @@ use Rattle.job.specs.declared.records.Records.{Records}
 use Rattle.job.specs.Contents.{Entry}
 use Rattle.job.specs.Layout.{Piece, written, entry_pieces, EntryFits}
 use Rattle.job.specs.Bytes.{lacks}
-use Rattle.job.specs.Reading.{Out, got, fault, and_then, Read, opt, entry, entry_fields, heading}
+use Rattle.job.specs.Reading.{got, fault, and_then, Read, opt, entry, entry_fields, heading}
 use Rattle.job.specs.Refusals.{FirstNo}
 use Rattle.job.specs.Outcomes.{Begins, Opened, Next, opening_pieces, OpeningFits}
 use Rattle.job.specs.Views.{answer, opened, head_v, record_v}
-use Rattle.job.proofs.Outs.{never, then_not}
+use Rattle.job.proofs.Outs.{never}
 use Rattle.job.proofs.Laws.{Bytes, Stops, Lawful}
 use Rattle.job.proofs.Refusing.{no_from_stops, all_left}
 use Rattle.job.proofs.Many.{opt_some, opt_none, opt_fault}

@@ -1,16 +1,15 @@
 -- A whole file: accepted exactly where it is that of a job, and refused exactly where a job's fields stop.
-use Rattle.std.proofs.Common.{◌≡◌, ℕ, ◌+◌, ◌<◌, ◌≤◌, Bool, true, false, cond, eqb, List, [], ◌∷◌, ◌++◌, length, drop, Some, None, sym, refl, ap, ◌∙◌, subst, ⊎_elim, arith}
-use Rattle.std.specs.List.{flat_map, AllByRecursion as All}
+use Rattle.std.proofs.Common.{◌≡◌, ℕ, ◌+◌, cond, eqb, List, [], ◌∷◌, ◌++◌, length, drop, Some, None, sym, refl, ap, ◌∙◌, subst, ⊎_elim, arith}
+use Rattle.std.specs.List.{flat_map}
 use Rattle.std.proofs.lemmas.List.{append-nil, drop_all, length-drop}
 use Rattle.std.proofs.lemmas.Bool.{eqb-true, eqb-false, eq-eqb, ne_eqb, cond-true, cond-false}
 use Rattle.job.specs.declared.faults.Question.{Question}
 use Rattle.job.specs.declared.faults.Question.TheVariants.{End}
-use Rattle.job.specs.Contents.{Entry, Head, Contents}
-use Rattle.job.specs.Layout
-use Rattle.job.specs.Layout.{Piece, head_pieces, entry_pieces, job_pieces, the_end, written, encode, HeadFits, EntryFits, Fits}
-use Rattle.job.specs.Reading.{Out, got, fault, and_then, contents, file_out}
-use Rattle.job.proofs.Outs.{never, if_got, if_fault, then_got, then_fault, then_is, then_not}
-use Rattle.job.proofs.Laws.{Bytes, Stands, Stops, Lawful, stop_left, stop_right, stop_both, written_append, lawful_again, under_lawful, via_lawful, many_lawful}
+use Rattle.job.specs.Contents.{Contents}
+use Rattle.job.specs.Layout.{Piece, head_pieces, entry_pieces, job_pieces, the_end, written, encode, Fits}
+use Rattle.job.specs.Reading.{Out, got, fault, contents, file_out}
+use Rattle.job.proofs.Outs.{if_got, if_fault, then_got, then_fault, then_is, then_not}
+use Rattle.job.proofs.Laws.{Bytes, Stops, Lawful, stop_left, stop_right, stop_both, written_append, lawful_again, under_lawful, via_lawful, many_lawful}
 use Rattle.job.proofs.Fields.{stop_here, stop_one, no_is}
 use Rattle.job.specs.Refusals.{FileNo}
 use Rattle.job.proofs.Parts.{entry_lawful, heading_lawful}

@@ -1,5 +1,5 @@
 -- What a job that was read stands for.
-use Rattle.std.specs.Prelude.{ℕ, List, map, take}
+use Rattle.std.specs.Prelude.{map, take}
 use Rattle.job.specs.declared.jobs.Job.{Job}
 use Rattle.job.specs.Resolved.{Resolved}
 use Rattle.job.specs.Rows.{row_v}

@@ -4,9 +4,6 @@ use Rattle.std.specs.Int.{w16}
 use Rattle.std.specs.List.{flat_map, AllByRecursion as All}
 use Rattle.job.specs.declared.faults.Question.{Question}
 use Rattle.job.specs.declared.faults.Question.TheVariants.{Letters, Map, Whole, Range, End}
-use Rattle.job.specs.declared.values.StepLimits.{StepLimits}
-use Rattle.job.specs.declared.values.Arm.{Arm}
-use Rattle.job.specs.declared.values.Counts.{Counts}
 use Rattle.job.specs.Bytes.{byte_at, word_at, word_bytes, signed_bytes, pose_bytes, between, lacks, bit}
 use Rattle.job.specs.Contents.{Entry, Head, Contents}
 

@@ -1,8 +1,5 @@
 -- How the bytes of a job file are read, place by place. The contract of `read` ties it to the layout.
-use Rattle.std.specs.Prelude.{◌≡◌, ℕ, zero, suc, ◌+◌, ◌*◌, ◌/◌, Bool, true, false, cond, not, ◌&&◌, List, [], ◌∷◌, ◌++◌, length, take, drop, ℤ, Some, None, Option, ◌==◌, nat_le, slice_index}
-use Rattle.std.specs.Int.Bits.{bit_and}
-use Rattle.std.proofs.Common.{to_z}
-use Rattle.std.specs.Int.{w16}
+use Rattle.std.specs.Prelude.{ℕ, zero, suc, ◌+◌, ◌*◌, Bool, cond, ◌&&◌, List, [], ◌∷◌, length, take, drop, ℤ, Some, None, Option, ◌==◌, nat_le, slice_index}
 use Rattle.job.specs.declared.faults.Question.{Question}
 use Rattle.job.specs.declared.faults.Question.TheVariants.{Letters, Map, Whole, Range, End}
 use Rattle.job.specs.declared.values.StepLimits.{StepLimits}

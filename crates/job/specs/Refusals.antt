@@ -1,8 +1,7 @@
 -- Which refusal a file gets: the first question in file order that gets a no.
 use Rattle.std.specs.Prelude.{◌≡◌, ℕ, ◌+◌, Bool, cond, List, [], ◌∷◌, ◌++◌, map, length, take, drop, Some, None, Option}
 use Rattle.job.specs.declared.faults.Question.{Question}
-use Rattle.job.specs.Contents.{Contents}
-use Rattle.job.specs.Layout.{Ask, Piece, written, job_pieces, Fits}
+use Rattle.job.specs.Layout.{Piece, written, job_pieces, Fits}
 
 -- A question that was put to a file: which, at which place, and whether it got a yes.
 pub record Put : Type 0 where

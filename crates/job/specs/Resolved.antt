@@ -1,12 +1,12 @@
 -- The values that a job works with.
-use Rattle.std.specs.Prelude.{ℕ, List, [], ◌∷◌, map, length, ℤ, pos, Some, None, Option}
+use Rattle.std.specs.Prelude.{ℕ, List, [], ◌∷◌, pos, Option}
 use Rattle.std.specs.Option.{unwrap_or, option_map, option_flatten}
 use Rattle.std.specs.List.{slice_get}
 use Rattle.job.specs.declared.values.StepLimits.{StepLimits}
 use Rattle.job.specs.declared.values.Arm.{Arm}
 use Rattle.job.specs.declared.values.Counts.{Counts}
 use Rattle.job.specs.declared.values.Position.{Position}
-use Rattle.job.specs.Contents.{Entry, Head, Contents}
+use Rattle.job.specs.Contents.{Entry, Contents}
 use Rattle.job.specs.Reading.{job_of}
 
 -- The step limits: 65,535 each where none are written.

@@ -1,5 +1,5 @@
 -- What the reader's types stand for.
-use Rattle.std.specs.Prelude.{◌≡◌, ℕ, ◌+◌, ◌≤◌, cond, List, [], ◌∷◌, ◌++◌, length, take, drop, ℤ, IfSome, Some, None, Ok, Err, Option, Result}
+use Rattle.std.specs.Prelude.{◌≡◌, ℕ, ◌+◌, ◌≤◌, List, [], ◌∷◌, ◌++◌, length, take, drop, ℤ, IfSome, Some, None, Ok, Err, Option, Result}
 use Rattle.std.specs.Option.{option_map, option_to_list}
 use Rattle.job.specs.declared.records.Field.{Field}
 use Rattle.job.specs.declared.records.Field.TheVariants.{X, Y, Poses, Note}

@@ -1,4 +1,6 @@
 // The job file: read whole, or record by record.
+#![tactic(auto)]
+
 pub mod cursor;
 pub mod faults;
 pub mod header;

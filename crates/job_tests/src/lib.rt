@@ -1,3 +1,5 @@
+#![tactic(auto)]
+
 // Tests of the job reader on whole files.
 #[cfg(test)]
 mod tests {

@@ -1,4 +1,6 @@
 // Lists one job after another: each is preceded by its length in two bytes, the low one first.
+#![tactic(auto)]
+
 use anyhow::anyhow;
 use listing::list;
 use std::io::Read;

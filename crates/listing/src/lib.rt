@@ -1,4 +1,6 @@
 // The listing of a job's tracks as text.
+#![tactic(auto)]
+
 mod lines;
 mod listings;
 mod printing;

@@ -1,4 +1,6 @@
 // A source and a filter of another crate, and code over every source and every filter.
+#![tactic(auto)]
+
 ghost use Rattle.std.specs.Prelude.{◌≡◌, ◌-◌, true, length, nat_le};
 ghost use Rattle.std.specs.List.{slice_get};
 

@@ -1,5 +1,5 @@
 -- Adding a rung, from what its steps write. Assumes nothing.
-use Rattle.std.proofs.Common.{◌≡◌, ℕ, zero, suc, ◌+◌, ◌-◌, ◌<◌, ◌≤◌, length, sym, ap, ◌∙◌, subst, arith}
+use Rattle.std.proofs.Common.{◌≡◌, ℕ, suc, ◌+◌, ◌-◌, ◌<◌, ◌≤◌, length, sym, ap, ◌∙◌, subst, arith}
 use Rattle.ladder.specs.Rules.{Rules, Lawful}
 use Rattle.ladder.specs.Tracks.{Rung, Bounded}
 use Rattle.enumeration.specs.declared.records.Station.{Station}

@@ -1,11 +1,10 @@
 -- Appending a track to a rung's block, from its three writes. Assumes nothing.
-use Rattle.std.proofs.Common.{◌≡◌, ℕ, ◌+◌, ◌<◌, Bool, true, false, cond, ltb, sym, refl, ap, ◌∙◌, subst, arith}
+use Rattle.std.proofs.Common.{◌≡◌, ℕ, ◌<◌, Bool, true, false, cond, ltb, sym, refl, ap, ◌∙◌, subst, arith}
 use Rattle.std.proofs.lemmas.Bool.{ltb-true, ltb-false}
 use Rattle.enumeration.specs.declared.records.Station.{Station}
-use Rattle.enumeration.specs.declared.records.Ranked.{Ranked}
 use Rattle.enumeration.specs.declared.records.Candidate.{Candidate}
 use Rattle.enumeration.specs.Tables.{Tables}
-use Rattle.enumeration.specs.Changes.{Elsewhere, Unchanged, BlockKept, Appended, entry_of, linked, grown}
+use Rattle.enumeration.specs.Changes.{Unchanged, Appended, entry_of, linked, grown}
 use Rattle.enumeration.specs.Writes.{StationPut, TrackPut, Ranks, Links, Appends}
 
 -- the track is written at place i: tables a; the rank before it is linked to it: tables b; the station is written: tables m

@@ -1,5 +1,5 @@
 -- The best of what the poses of the last rung offer. Assumes nothing.
-use Rattle.std.proofs.Common.{◌≡◌, ℕ, zero, suc, ◌+◌, ◌<◌, ◌≤◌, Bool, true, false, length, get_or, Some, None, Option, sym, refl, ap, ◌∙◌, subst, arith}
+use Rattle.std.proofs.Common.{◌≡◌, ℕ, zero, suc, ◌<◌, ◌≤◌, true, false, Some, None, Option, refl, arith}
 use Rattle.std.specs.Ordering.{is_lt}
 use Rattle.ladder.specs.Rules.{Rules, Lawful}
 use Rattle.ladder.specs.Tracks.{Bounded}

@@ -1,30 +1,28 @@
 -- What the calls of a sound resolver come to in its book. Assumes nothing.
-use Rattle.std.proofs.Common.{◌≡◌, ℕ, zero, suc, ◌+◌, ◌<◌, ◌≤◌, Bool, true, false, List, [], ◌∷◌, ◌++◌, length, get_or, drop, replicate, Some, None, Option, sym, refl, ap, ◌∙◌, subst, arith}
-use Rattle.std.specs.List.{AllByRecursion as All}
+use Rattle.std.proofs.Common.{◌≡◌, ℕ, zero, suc, ◌+◌, ◌<◌, ◌≤◌, true, false, List, [], ◌∷◌, ◌++◌, length, get_or, drop, replicate, None, sym, refl, ap, ◌∙◌, subst, arith}
 use Rattle.std.proofs.ByRecursion.{All-get_or}
 use Rattle.ladder.specs.declared.poses.Step.{Step}
-use Rattle.ladder.specs.declared.poses.Limits.{Limits}
 use Rattle.ladder.specs.Rules.{Rules, Lawful}
-use Rattle.ladder.specs.Tracks.{Rung, Ladder, Track, Admissible, Bounded, steps, cost}
+use Rattle.ladder.specs.Tracks.{Rung, Admissible, Bounded, steps, cost}
 use Rattle.ladder.specs.Listed.{tracks_of}
 use Rattle.ladder.proofs.Endings.{list}
 use Rattle.ladder.proofs.Forward.{length_steps}
 use Rattle.enumeration.specs.Tables.{ladder}
 use Rattle.enumeration.specs.Sound.{RungsSound}
-use Rattle.enumeration.specs.Filling.{Fresh, Filled}
+use Rattle.enumeration.specs.Filling.{Filled}
 use Rattle.enumeration.specs.Taking.{Heads}
 use Rattle.enumeration.proofs.Heads.{fresh_heads}
 use Rattle.enumeration.proofs.Frames.{length_ladder}
-use Rattle.book.specs.Book.{Book, Answer, Outcome, given, refused, counted, one_taken, with_rung, written, adding, add_answer, nexting, next_answer}
-use Rattle.book.proofs.Replies.{next_ended, next_found, nexting_refused, nexting_given, adding_done}
+use Rattle.book.specs.Book.{given, refused, with_rung, written, nexting}
+use Rattle.book.proofs.Replies.{next_ended, next_found, nexting_refused, nexting_given}
 use Rattle.resolver.specs.declared.held.Resolver.{Resolver}
 use Rattle.resolver.specs.declared.tables.Core.{Core}
 use Rattle.resolver.specs.declared.answers.Taken.{Taken}
 use Rattle.resolver.specs.Bounds.{Bounds}
 use Rattle.resolver.specs.Tables.{tables_of}
 use Rattle.resolver.specs.Standing.{poses_in, ladder_in, book}
-use Rattle.resolver.specs.Adding.{GrownByARung, AddsRung}
-use Rattle.resolver.specs.Sound.{Sound, HeadsSound, Untaken, taken_at, plainly, due, SetupKept, Takes, Gives, Ends, ladder_of, list_of}
+use Rattle.resolver.specs.Adding.{GrownByARung}
+use Rattle.resolver.specs.Sound.{Sound, HeadsSound, taken_at, plainly, due, SetupKept, Gives, Ends, ladder_of, list_of}
 
 -- a resolver keeps its bounds
 pub bounds_of : {C : Type 0} (r : Resolver C) → Bounds r.core

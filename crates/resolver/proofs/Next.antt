@@ -1,5 +1,5 @@
 -- The next track of the list is taken. Assumes nothing.
-use Rattle.std.proofs.Common.{◌≡◌, ℕ, zero, suc, ◌+◌, ◌<◌, ◌≤◌, Bool, true, false, cond, eqb, List, [], ◌∷◌, ◌++◌, length, get_or, drop, set, Some, None, Option, sym, refl, ap, ◌∙◌, subst, ⊎_elim, arith, get_or-set_other, get_or-set_same}
+use Rattle.std.proofs.Common.{◌≡◌, ℕ, suc, ◌+◌, ◌<◌, ◌≤◌, true, cond, List, [], ◌++◌, length, get_or, drop, set, Some, None, Option, sym, ap, ◌∙◌, subst, ⊎_elim, arith, get_or-set_other, get_or-set_same}
 use Rattle.std.proofs.lemmas.Bool.{false≢true}
 use Rattle.std.proofs.lemmas.Bool.Decides.{eqb_tells}
 use Rattle.ladder.specs.declared.poses.PoseNumber.{PoseNumber}
@@ -8,15 +8,15 @@ use Rattle.ladder.specs.Rules.{Rules, Lawful}
 use Rattle.ladder.specs.Tracks.{Bounded, steps, cost}
 use Rattle.ladder.specs.Listed.{tracks_of}
 use Rattle.ladder.specs.Ranking.{GivenOut, bumped}
-use Rattle.enumeration.specs.Tables.{Tables, poses, ladder}
-use Rattle.enumeration.specs.Sound.{ends, Lies, RungsSound}
+use Rattle.enumeration.specs.Tables.{poses, ladder}
+use Rattle.enumeration.specs.Sound.{ends, Lies}
 use Rattle.enumeration.specs.Taking.{Heads, Offers, BestBelow, last_cost}
 use Rattle.enumeration.proofs.Heads.{counted_heads}
 use Rattle.enumeration.proofs.Taking.{next_of_list, end_of_list, cost_is}
 use Rattle.resolver.specs.declared.tables.Core.{Core}
 use Rattle.resolver.specs.Bounds.{Bounds}
 use Rattle.resolver.specs.Tables.{tables_of, width}
-use Rattle.resolver.specs.Sound.{Sound, HeadsSound, AtRest, IsBest, WritesSteps, taken_at, plainly, due, counted, ladder_of, list_of}
+use Rattle.resolver.specs.Sound.{Sound, HeadsSound, AtRest, WritesSteps, taken_at, plainly, due, counted, ladder_of, list_of}
 
 -- a sound resolver with nothing due, whose last rung is r
 module _ {C P : Type 0} (c : Rules C P) (laws : Lawful c) (k : Core C) (b : Bounds k) (s : Sound c k) (closed : k.closed ≡ true) (settled : k.recent ≡ None) (r : ℕ) (e : k.rungs ≡ suc r) where

@@ -2,12 +2,10 @@
 use Rattle.std.proofs.Common.{◌≡◌, ℕ, zero, suc, ◌+◌, ◌-◌, ◌<◌, ◌≤◌, Bool, true, false, cond, ltb, Some, None, MatchBool, Option, sym, refl, ap, ◌∙◌, subst, arith, MatchOption}
 use Rattle.std.proofs.lemmas.Bool.{cond-true, cond-false}
 use Rattle.ladder.specs.declared.poses.Limits.{Limits}
-use Rattle.ladder.specs.declared.poses.PoseNumber.{PoseNumber}
 use Rattle.ladder.specs.Rules.{Rules}
 use Rattle.enumeration.specs.declared.records.Station.{Station}
 use Rattle.enumeration.specs.declared.records.Ranked.{Ranked}
 use Rattle.enumeration.specs.declared.records.Candidate.{Candidate}
-use Rattle.enumeration.specs.declared.records.Back.{Back}
 use Rattle.enumeration.specs.Tables.{Tables}
 use Rattle.enumeration.specs.Sound.{last_back}
 use Rattle.enumeration.specs.Changes.{Unchanged, Entered, Enters, Draws}

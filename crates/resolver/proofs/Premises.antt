@@ -1,11 +1,11 @@
 -- What the calls rely on holds of sound tables. Assumes nothing.
-use Rattle.std.proofs.Common.{◌≡◌, ℕ, zero, suc, ◌+◌, ◌-◌, ◌<◌, ◌≤◌, Bool, true, false, cond, ltb, sym, refl, ap, ◌∙◌, subst, arith}
+use Rattle.std.proofs.Common.{◌≡◌, ℕ, zero, suc, ◌+◌, ◌-◌, ◌<◌, ◌≤◌, true, cond, sym, ap, ◌∙◌, subst, arith}
 use Rattle.std.proofs.lemmas.Bool.{ltb-true, false≢true}
 use Rattle.ladder.specs.declared.poses.Limits.{Limits}
 use Rattle.ladder.specs.Rules.{Rules}
 use Rattle.enumeration.specs.Tables.{Tables}
 use Rattle.enumeration.specs.Sound.{Lies, Holds, RungsSound, last_back}
-use Rattle.enumeration.specs.Writes.{OneMore, Steady, Advanceable, Backed, successor_found}
+use Rattle.enumeration.specs.Writes.{Steady, Advanceable, Backed, successor_found}
 
 module _ {C P : Type 0} (c : Rules C P) (l : Limits) (w n : ℕ) (t : Tables C) (sound : RungsSound c l t n) (within : (q : ℕ) → q < n → t.used q ≤ w) where
   -- the last rank at a pose lies in the part of its block in use

@@ -1,13 +1,12 @@
 -- Looking for the track after the one taken last keeps a resolver sound. Assumes nothing.
-use Rattle.std.proofs.Common.{◌≡◌, ℕ, zero, suc, ◌+◌, ◌<◌, ◌≤◌, Bool, true, false, List, [], ◌∷◌, length, get_or, Some, None, Option, sym, refl, ap, ◌∙◌, subst, arith}
+use Rattle.std.proofs.Common.{◌≡◌, ℕ, suc, ◌<◌, List, [], ◌∷◌, get_or, Some, None, Option, sym, ap, ◌∙◌, subst, arith}
 use Rattle.std.proofs.lemmas.Bool.{false≢true}
 use Rattle.ladder.specs.declared.poses.PoseNumber.{PoseNumber}
-use Rattle.ladder.specs.declared.poses.Limits.{Limits}
 use Rattle.ladder.specs.Rules.{Rules}
-use Rattle.enumeration.specs.Tables.{Tables, poses, ladder}
+use Rattle.enumeration.specs.Tables.{poses, ladder}
 use Rattle.enumeration.specs.Sound.{RungsSound}
 use Rattle.enumeration.specs.Filling.{SameLadder}
-use Rattle.enumeration.specs.Taking.{Heads, LookedFor}
+use Rattle.enumeration.specs.Taking.{Heads}
 use Rattle.enumeration.proofs.Heads.{renewed_heads}
 use Rattle.resolver.specs.declared.tables.Core.{Core}
 use Rattle.resolver.specs.Bounds.{Bounds, Same, settled}

@@ -1,17 +1,17 @@
 -- Looking for what is due, choosing the best pose, writing its track and counting it takes the next track of the list. Assumes nothing.
-use Rattle.std.proofs.Common.{◌≡◌, ℕ, zero, suc, ◌+◌, ◌-◌, ◌<◌, ◌≤◌, Bool, true, false, List, [], ◌∷◌, ◌++◌, length, get_or, drop, Some, None, Option, sym, refl, ap, ◌∙◌, subst, arith}
+use Rattle.std.proofs.Common.{◌≡◌, ℕ, suc, ◌+◌, ◌<◌, ◌≤◌, true, List, [], ◌++◌, length, get_or, drop, Some, None, sym, refl, ap, ◌∙◌, subst, arith}
 use Rattle.ladder.specs.declared.poses.PoseNumber.{PoseNumber}
 use Rattle.ladder.specs.declared.poses.Step.{Step}
 use Rattle.ladder.specs.Rules.{Rules, Lawful}
 use Rattle.ladder.specs.Tracks.{steps, cost}
 use Rattle.ladder.specs.Listed.{tracks_of}
 use Rattle.enumeration.specs.Tables.{ladder}
-use Rattle.enumeration.specs.Taking.{BestBelow, last_cost}
+use Rattle.enumeration.specs.Taking.{last_cost}
 use Rattle.resolver.specs.declared.tables.Core.{Core}
 use Rattle.resolver.specs.declared.answers.Taken.{Taken}
 use Rattle.resolver.specs.Bounds.{Bounds, Same, settled}
 use Rattle.resolver.specs.Tables.{tables_of, width}
-use Rattle.resolver.specs.Sound.{Sound, IsBest, WritesSteps, Renews, Takes, Gives, Ends, taken_at, plainly, counted, ladder_of, list_of}
+use Rattle.resolver.specs.Sound.{Sound, IsBest, WritesSteps, Renews, Takes, taken_at, counted, ladder_of, list_of}
 use Rattle.resolver.proofs.Next.{at_rest, at_end, low_number, exists, last_low, small, costs, output, counted_sound}
 
 -- a ladder without rungs has no track

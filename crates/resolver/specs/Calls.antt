@@ -1,9 +1,9 @@
 -- What the contracts of the calls say, and what follows from them of every chain of calls. Assumes nothing.
-use Rattle.std.specs.Prelude.{◌≡◌, ℕ, ◌<◌, Bool, true, false, ◌⊎◌, List, [], ◌∷◌, Result}
+use Rattle.std.specs.Prelude.{◌≡◌, ℕ, ◌<◌, true, false, ◌⊎◌, List, [], ◌∷◌, Result}
 use Rattle.ladder.specs.declared.poses.Step.{Step}
 use Rattle.ladder.specs.Rules.{Rules}
 use Rattle.ladder.specs.Tracks.{Rung}
-use Rattle.book.specs.Book.{Book, Outcome, Filter, add, close, next, seek, outcome}
+use Rattle.book.specs.Book.{Book, Filter, add, close, next, seek, outcome}
 use Rattle.book.specs.Runs.{Event, Promised}
 use Rattle.resolver.specs.declared.answers.Taken.{Taken}
 use Rattle.resolver.specs.declared.answers.Refusal.{Refusal}

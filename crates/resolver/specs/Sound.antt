@@ -1,5 +1,5 @@
 -- What a resolver's tables stand for between calls. Assumes nothing.
-use Rattle.std.specs.Prelude.{◌≡◌, ℕ, zero, suc, ◌+◌, ◌<◌, ◌≤◌, Bool, true, false, List, [], ◌∷◌, ◌++◌, length, drop, Some, None, Option, MatchOption, slice_index, slice_index_or, slice_set}
+use Rattle.std.specs.Prelude.{◌≡◌, ℕ, zero, suc, ◌+◌, ◌<◌, ◌≤◌, true, false, List, [], ◌++◌, length, drop, Some, None, Option, MatchOption, slice_index, slice_index_or, slice_set}
 use Rattle.std.specs.Option.{option_map}
 use Rattle.ladder.specs.declared.poses.PoseNumber.{PoseNumber}
 use Rattle.ladder.specs.declared.poses.Step.{Step}
@@ -7,10 +7,10 @@ use Rattle.ladder.specs.Rules.{Rules}
 use Rattle.ladder.specs.Tracks.{Ladder, Track, steps, cost}
 use Rattle.ladder.specs.Listed.{tracks_of}
 use Rattle.resolver.specs.declared.answers.Taken.{Taken}
-use Rattle.enumeration.specs.Tables.{Tables, ladder}
+use Rattle.enumeration.specs.Tables.{ladder}
 use Rattle.enumeration.specs.Sound.{ends, RungSound, RungsSound}
 use Rattle.enumeration.specs.Filling.{Fresh, SameLadder}
-use Rattle.enumeration.specs.Taking.{Heads, BestBelow, last_cost}
+use Rattle.enumeration.specs.Taking.{Heads, BestBelow}
 use Rattle.resolver.specs.declared.tables.Core.{Core}
 use Rattle.resolver.specs.Tables.{tables_of, width}
 

@@ -1,5 +1,5 @@
 -- The tables of a resolver, read by rung, pose number and place. Assumes nothing.
-use Rattle.std.specs.Prelude.{ℕ, ◌+◌, ◌*◌, Bool, false, List, get_or, pos, slice_index_or}
+use Rattle.std.specs.Prelude.{ℕ, ◌+◌, ◌*◌, false, List, get_or, pos, slice_index_or}
 use Rattle.std.specs.List.{between}
 use Rattle.ladder.specs.Rules.{Rules}
 use Rattle.enumeration.specs.declared.records.Station.{Station}

@@ -1,4 +1,6 @@
 // The resolver: it lists the tracks of a ladder cheapest first, one by one, over three lent tables.
+#![tactic(auto)]
+
 mod answers;
 mod calls;
 mod filling;

@@ -1,5 +1,5 @@
 -- Casts on the way into a test of nearness. Assumes nothing.
-use Rattle.std.proofs.Common.{◌≡◌, Bool, ℤ, ap, ◌∙◌, w16, w32, SFits, to_z, of_z}
+use Rattle.std.proofs.Common.{◌≡◌, ℤ, ap, ◌∙◌, w16, w32, SFits, to_z, of_z}
 use Rattle.std.proofs.lemmas.Int.{to_z-of_z}
 use Rattle.job.specs.declared.values.Arm.{Arm}
 use Rattle.sources.specs.Reach.{near}

@@ -1,14 +1,14 @@
 -- The poses that reach, as listed, are what the arm offers. Assumes nothing.
-use Rattle.std.proofs.Common.{◌≡◌, ℕ, zero, suc, ◌+◌, ◌*◌, ◌<◌, ◌≤◌, Bool, true, false, cond, ◌&&◌, leb, ◌⊎◌, List, [], ◌∷◌, ◌++◌, map, length, get_or, pos, ◌<ℤ◌, Some, None, filter, Option, sym, refl, ap, ◌∙◌, subst, inl, inr, arith}
+use Rattle.std.proofs.Common.{◌≡◌, ℕ, zero, suc, ◌+◌, ◌<◌, ◌≤◌, Bool, true, false, cond, List, [], ◌∷◌, pos, ◌<ℤ◌, Some, None, filter, Option, sym, refl, ap, subst, inl, inr, arith}
 use Rattle.std.specs.List.{range_with_len, ContainsAt as Has, flat_map, AllByRecursion as All}
-use Rattle.std.proofs.ByRecursion.{all-has, All-map, All-weaker, all_kept_by}
+use Rattle.std.proofs.ByRecursion.{all-has, All-map, All-weaker}
 use Rattle.std.proofs.lemmas.Int.{ints}
 use Rattle.std.proofs.lemmas.Bool.{and_parts, and_from, leb-true, le-leb}
 use Rattle.job.specs.declared.values.Arm.{Arm}
 use Rattle.job.specs.declared.values.Position.{Position}
 use Rattle.ladder.specs.declared.poses.Pose.{Pose}
 use Rattle.sources.specs.Directions.{sine, cosine}
-use Rattle.sources.specs.Reach.{off, near, reaching_pose, pose, row, rows, reaching}
+use Rattle.sources.specs.Reach.{near, reaching_pose, pose, row, rows, reaching}
 use Rattle.sources.specs.Files.{reached, Offered}
 use Rattle.sources.specs.Offers.{Reaches, Before, Offers}
 use Rattle.sources.proofs.Rising.{Rising, rising_get_or, rising_append, rising_kept_by, rising_weaker, rising_map, rising_counting, has_kept_by, has_map, has_joined, has_counting, all_joined, all_counting, same_rising, rising_from_get_or}

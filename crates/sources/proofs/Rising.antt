@@ -1,7 +1,7 @@
 -- Lists in strictly rising order, and what a list has. Assumes nothing.
 use Rattle.std.proofs.Common.{◌≡◌, ℕ, zero, suc, ◌+◌, ◌<◌, ◌≤◌, Bool, true, false, cond, ◌⊎◌, List, [], ◌∷◌, ◌++◌, map, length, get_or, filter, sym, refl, ap, ◌∙◌, subst, inl, inr, ⊎_elim, suc-le-suc, le_of_suc-le-suc, not-suc-le-zero, arith}
 use Rattle.std.specs.List.{range_with_len, ContainsAt as Has, flat_map, AllByRecursion as All}
-use Rattle.std.proofs.ByRecursion.{All-append, All-get_or, All-from_get_or, all-has, All-map, all_kept_by, All-weaker, has_append_left, has_append_right, has_get_or}
+use Rattle.std.proofs.ByRecursion.{All-append, All-get_or, All-from_get_or, all-has, All-map, all_kept_by, All-weaker, has_append_left, has_append_right}
 use Rattle.std.proofs.lemmas.Bool.{false≢true}
 use Rattle.std.proofs.lemmas.List.FromFn.{length-range_with_len, get_or-range_with_len}
 

@@ -1,4 +1,6 @@
 // Sources: a list of poses for each waypoint.
+#![tactic(auto)]
+
 mod arms;
 mod asking;
 mod directions;

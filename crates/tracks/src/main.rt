@@ -1,4 +1,6 @@
 // Reads a job file from standard input and prints its tracks, cheapest first.
+#![tactic(auto)]
+
 use listing::list;
 use std::io::Read;
 

@@ -1,4 +1,6 @@
 // A cost of its own, made outside the crate of the costs: turns of the shoulder, which carries the whole arm, count three times.
+#![tactic(auto)]
+
 ghost use Rattle.weighted.specs.Weighing.{weighing};
 ghost use Rattle.weighted.specs.Weighs.{weighing_lawful, weighing_keeps};
 

@@ -1,4 +1,4 @@
-use Rattle.std.proofs.Common.{◌≡◌, ◌+◌, ◌-◌, ◌<◌, ◌∷◌, length, get_or, take, drop, pos, filter, sym, refl, ap, ◌∙◌, zero-add, arith, w16, SFits, rules}
+use Rattle.std.proofs.Common.{◌+◌, ◌-◌, ◌<◌, ◌∷◌, length, get_or, take, drop, pos, filter, sym, ap, ◌∙◌, zero-add, arith, w16, SFits, rules}
 use Rattle.std.proofs.lemmas.List.{at_drop_more, at_drop_all, nil_from_length}
 use Rattle.std.proofs.lemmas.Slice.{first_rest}
 use Rattle.std.proofs.lemmas.Bool.{eqb-true, eqb-false}

@@ -1,4 +1,4 @@
-use Rattle.std.proofs.Common.{◌≡◌, arith}
+use Rattle.std.proofs.Common.{arith}
 use Rattle.job.proofs.Tabled.{cut}
 use Rattle.job.proofs.jobs.part.Goals as goal
 

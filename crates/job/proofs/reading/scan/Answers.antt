@@ -1,6 +1,6 @@
-use Rattle.std.proofs.Common.{◌≡◌, ℕ, List, map, length, take, Some, unwrap_or, sym, ap, ◌∙◌, subst}
+use Rattle.std.proofs.Common.{◌≡◌, ℕ, List, map, take, Some, unwrap_or, sym, ap, ◌∙◌, subst}
 use Rattle.job.specs.Reading.{got}
-use Rattle.job.specs.Resolved.{Resolved, origin}
+use Rattle.job.specs.Resolved.{origin}
 use Rattle.job.specs.Rows.{row_v}
 use Rattle.job.specs.Views.{head_v}
 use Rattle.job.proofs.Many.{said, rest}

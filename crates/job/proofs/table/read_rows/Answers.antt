@@ -1,10 +1,10 @@
-use Rattle.std.proofs.Common.{◌≡◌, ℕ, suc, ◌+◌, ◌-◌, ◌<◌, ◌≤◌, List, [], ◌∷◌, ◌++◌, map, length, take, set, IfSome, Ok, sym, refl, ap, ◌∙◌, subst, arith}
+use Rattle.std.proofs.Common.{◌≡◌, suc, ◌+◌, ◌-◌, ◌<◌, [], ◌∷◌, ◌++◌, map, length, take, set, IfSome, Ok, sym, ap, ◌∙◌, subst, arith}
 use Rattle.std.specs.Option.{option_map}
 use Rattle.std.proofs.lemmas.List.{take_more_set, map_push}
 use Rattle.std.proofs.lemmas.Result.{err_from_is_err_and}
 use Rattle.std.proofs.lemmas.Bool.{ltb-true}
 use Rattle.job.specs.Reading.{got, entry}
-use Rattle.job.specs.Resolved.{waypoint, placed}
+use Rattle.job.specs.Resolved.{placed}
 use Rattle.job.specs.Rows.{row_v}
 use Rattle.job.specs.Views.{record_v, taken, Lies, Places}
 use Rattle.job.proofs.Entering.{lies_from}

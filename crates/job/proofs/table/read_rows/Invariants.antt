@@ -1,4 +1,4 @@
-use Rattle.std.proofs.Common.{◌≡◌, ◌+◌, ◌≤◌, map, length, take}
+use Rattle.std.proofs.Common.{◌≡◌, ◌+◌, ◌≤◌, map, take}
 use Rattle.job.specs.Rows.{row_v}
 use Rattle.job.specs.Resolved.{origin}
 use Rattle.job.proofs.Many.{prepend, rest}

@@ -1,4 +1,4 @@
-use Rattle.std.proofs.Common.{◌≡◌, fold, sym, ap, arith}
+use Rattle.std.proofs.Common.{fold, sym, ap, arith}
 use Rattle.sources.specs.Pages.{with_pose}
 use Rattle.sources.proofs.Scans.{row_none}
 use Rattle.sources.proofs.pages.scan_row.Goals as goal

@@ -1,7 +1,6 @@
-use Rattle.std.proofs.Common.{◌≡◌, ◌+◌, ◌*◌, Some, sym, ap, ◌∙◌, w16, to_z, of_z}
+use Rattle.std.proofs.Common.{◌*◌, Some, sym, ap, ◌∙◌, w16, to_z, of_z}
 use Rattle.std.specs.List.{slice_get}
 use Rattle.std.proofs.lemmas.Int.{to_z-of_z}
-use Rattle.job.specs.declared.values.Counts.{Counts}
 use Rattle.job.specs.Bytes.{signed_word_at}
 use Rattle.job.proofs.Tabled.{pose_is_at, pose_past}
 use Rattle.job.proofs.jobs.Job.pose.Goals as goal

@@ -1,4 +1,4 @@
-use Rattle.std.proofs.Common.{◌≡◌, set, sym, refl, ap, ◌∙◌, arith}
+use Rattle.std.proofs.Common.{◌≡◌, set, sym, ap, ◌∙◌, arith}
 use Rattle.std.proofs.lemmas.List.{set_past}
 use Rattle.listing.proofs.text.Text.byte.Goals as goal
 use Rattle.listing.proofs.text.Text.byte.Goals.{then-at-self, else-at-self}

@@ -1,4 +1,4 @@
-use Rattle.std.proofs.Common.{◌≡◌, ◌+◌, ◌<◌, ◌≤◌, [], ◌∷◌, length, sym, refl, ap, ◌∙◌, subst, arith}
+use Rattle.std.proofs.Common.{◌≡◌, ◌+◌, ◌<◌, ◌≤◌, [], ◌∷◌, length, sym, refl, ap, ◌∙◌, arith}
 use Rattle.book.specs.Book.{counted, with_rung}
 use Rattle.enumeration.specs.Tables.{ladder}
 use Rattle.resolver.specs.Tables.{tables_of}

@@ -1,6 +1,4 @@
-use Rattle.std.proofs.Common.{◌≡◌, sym, ap, ◌∙◌}
 use Rattle.std.proofs.lemmas.Result.{err_from_is_err_and}
-use Rattle.resolver.specs.Answers.{track_answer}
 use Rattle.resolver.proofs.Unready.{next_unready}
 use Rattle.resolver.proofs.held.Resolver.next.Goals as goal
 

@@ -1,7 +1,6 @@
-use Rattle.std.proofs.Common.{◌≡◌, ◌<◌, ◌≤◌, true, false, length, take, sym, refl, ap, ◌∙◌, subst, arith, rules}
+use Rattle.std.proofs.Common.{refl, ◌∙◌, arith}
 use Rattle.std.proofs.lemmas.Result.{err_from_is_err_and}
 use Rattle.resolver.specs.Answers.{number}
-use Rattle.resolver.specs.Standing.{book}
 use Rattle.resolver.proofs.Books.{bounds_of}
 use Rattle.resolver.proofs.Unready.{seek_unready}
 use Rattle.resolver.proofs.Seeking.{judged_so, sought_refused, sought_passed, sought_turned}

@@ -1,4 +1,4 @@
-use Rattle.std.proofs.Common.{◌≡◌, ◌+◌, ◌<◌, ◌≤◌, length, sym, refl, ap, ◌∙◌, subst, arith}
+use Rattle.std.proofs.Common.{refl, arith}
 use Rattle.ladder.specs.Listed.{tracks_of}
 use Rattle.book.proofs.Replies.{next_spent, nexting_refused}
 use Rattle.resolver.specs.Standing.{book}

@@ -1,6 +1,6 @@
-use Rattle.std.proofs.Common.{◌≡◌, ℕ, suc, ◌+◌, ◌-◌, ◌<◌, ◌≤◌, Some, sym, refl, ap, ◌∙◌, subst, arith, rules}
+use Rattle.std.proofs.Common.{◌≡◌, suc, ◌+◌, ◌-◌, ◌≤◌, Some, sym, refl, ap, ◌∙◌, subst, arith, rules}
 use Rattle.enumeration.specs.Changes.{Draws}
-use Rattle.enumeration.specs.Writes.{OneMore, Readable, Advanceable, Advanced, pending_at}
+use Rattle.enumeration.specs.Writes.{OneMore, Advanceable, Advanced, pending_at}
 use Rattle.resolver.specs.Tables.{tables_of, width}
 use Rattle.resolver.proofs.Pending.{pending_is, advanced_none, advanced_some, entered_drawable}
 use Rattle.resolver.proofs.tables.Core.advance.Goals as goal

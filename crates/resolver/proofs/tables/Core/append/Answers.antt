@@ -1,4 +1,4 @@
-use Rattle.std.proofs.Common.{◌≡◌, ℕ, ◌+◌, ◌<◌, ltb, sym, ap, ◌∙◌, subst, arith, rules}
+use Rattle.std.proofs.Common.{◌≡◌, ℕ, ◌+◌, ◌<◌, ltb, ap, ◌∙◌, subst, arith}
 use Rattle.enumeration.specs.declared.records.Station.{Station}
 use Rattle.resolver.specs.Tables.{tables_of, width}
 use Rattle.enumeration.specs.Writes.{StationPut, Links}

@@ -1,4 +1,4 @@
-use Rattle.std.proofs.Common.{◌≡◌, ℕ, suc, ◌+◌, sym, subst, add-one, arith}
+use Rattle.std.proofs.Common.{◌≡◌, ℕ, sym, subst, add-one, arith}
 use Rattle.enumeration.specs.Taking.{BestBelow}
 use Rattle.resolver.specs.Tables.{tables_of}
 use Rattle.resolver.specs.Sound.{taken_at, plainly}

@@ -1,9 +1,9 @@
-use Rattle.std.proofs.Common.{◌≡◌, ℕ, suc, ◌<◌, ◌≤◌, Bool, true, false, Some, None, Option, Ordering, sym, refl, ap, ◌∙◌, subst, arith}
+use Rattle.std.proofs.Common.{◌≡◌, ◌<◌, Bool, Some, Option, Ordering, sym, ap, ◌∙◌, subst, arith}
 use Rattle.std.specs.Ordering.{is_lt}
 use Rattle.ladder.specs.Rules.{Rules}
 use Rattle.ladder.specs.declared.poses.PoseNumber.{PoseNumber}
 use Rattle.enumeration.specs.declared.records.Station.{Station}
-use Rattle.enumeration.specs.Taking.{BestBelow, last_cost}
+use Rattle.enumeration.specs.Taking.{BestBelow}
 use Rattle.resolver.specs.Tables.{tables_of, station_at}
 use Rattle.resolver.specs.Sound.{taken_at, plainly}
 use Rattle.resolver.proofs.Best.{last_low, low_number, begins, stays, changes}

@@ -1,6 +1,6 @@
-use Rattle.std.proofs.Common.{◌≡◌, ℕ, suc, ◌+◌, ◌-◌, ◌<◌, ◌≤◌, length, set, Some, None, sym, ap, ◌∙◌, subst, arith, length-set, get_or-set_same}
+use Rattle.std.proofs.Common.{◌≡◌, suc, ◌-◌, ◌<◌, set, Some, sym, ap, ◌∙◌, subst, arith, length-set, get_or-set_same}
 use Rattle.resolver.specs.Tables.{tables_of, width}
-use Rattle.enumeration.specs.Writes.{Readable, PathDown, path_at, needed_at}
+use Rattle.enumeration.specs.Writes.{PathDown, path_at, needed_at}
 use Rattle.resolver.proofs.Descent.{backed_readable, path_starts, path_goes_down}
 use Rattle.resolver.proofs.tables.Core.descend.Goals as goal
 

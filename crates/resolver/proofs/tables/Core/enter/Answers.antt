@@ -1,4 +1,4 @@
-use Rattle.std.proofs.Common.{Some, None, sym, ◌∙◌, subst, rules}
+use Rattle.std.proofs.Common.{Some, None, sym, ◌∙◌, subst}
 use Rattle.enumeration.specs.Changes.{Entered}
 use Rattle.resolver.specs.Tables.{tables_of, width}
 use Rattle.resolver.proofs.Entering.{unchanged, entering}

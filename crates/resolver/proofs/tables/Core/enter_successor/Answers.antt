@@ -1,4 +1,4 @@
-use Rattle.std.proofs.Common.{◌≡◌, ℕ, suc, ◌+◌, ◌-◌, ◌<◌, Bool, true, false, cond, ltb, Some, sym, ap, ◌∙◌, subst, arith, rules}
+use Rattle.std.proofs.Common.{◌≡◌, suc, ◌+◌, ◌-◌, ◌<◌, true, false, cond, ltb, Some, sym, ap, ◌∙◌, subst, arith}
 use Rattle.enumeration.specs.declared.records.Ranked.{Ranked}
 use Rattle.enumeration.specs.Changes.{Unchanged, Enters}
 use Rattle.enumeration.specs.Writes.{Readable, pending_at, successor_found}

@@ -1,4 +1,4 @@
-use Rattle.std.proofs.Common.{◌≡◌, Bool, cond, Some, None, sym, refl, ◌∙◌, subst}
+use Rattle.std.proofs.Common.{◌≡◌, cond, Some, None, sym, refl, ◌∙◌, subst}
 use Rattle.enumeration.specs.Writes.{needed_at}
 use Rattle.resolver.specs.Tables.{tables_of, width}
 use Rattle.resolver.proofs.Pending.{needed_none, needed_some}

@@ -1,4 +1,4 @@
-use Rattle.std.proofs.Common.{◌≡◌, ℕ, ◌+◌, ◌*◌, get_or, set, sym, refl, ap, ◌∙◌, arith, get_or-set_other, get_or-set_same, rules}
+use Rattle.std.proofs.Common.{◌+◌, ◌*◌, get_or, set, sym, refl, ap, ◌∙◌, get_or-set_other, get_or-set_same, rules}
 use Rattle.resolver.specs.Tables.{no_track, width}
 use Rattle.resolver.proofs.Blocks.{places_apart}
 use Rattle.resolver.proofs.tables.Core.put_track.Goals as goal

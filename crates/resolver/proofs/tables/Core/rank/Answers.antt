@@ -1,4 +1,4 @@
-use Rattle.std.proofs.Common.{◌≡◌, ℕ, ◌+◌, ◌*◌, ◌<◌, length, get_or, set, sym, refl, ap, ◌∙◌, arith, get_or-set_other, get_or-set_same, rules}
+use Rattle.std.proofs.Common.{◌<◌, length, get_or, refl, ap, ◌∙◌, arith, get_or-set_other, get_or-set_same, rules}
 use Rattle.enumeration.specs.declared.records.Extent.{Extent}
 use Rattle.resolver.specs.Tables.{no_extent}
 use Rattle.resolver.proofs.Blocks.{kept_field}

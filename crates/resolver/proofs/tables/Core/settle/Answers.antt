@@ -1,4 +1,4 @@
-use Rattle.std.proofs.Common.{subst, arith, rules}
+use Rattle.std.proofs.Common.{subst, arith}
 use Rattle.enumeration.specs.declared.records.Candidate.{Candidate}
 use Rattle.resolver.specs.Effects.{AppendsTrack}
 use Rattle.resolver.proofs.Adding.{settles_above, settles_first, start_read}

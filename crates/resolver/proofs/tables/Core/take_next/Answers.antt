@@ -1,7 +1,6 @@
-use Rattle.std.proofs.Common.{◌≡◌, ℕ, suc, ◌+◌, ◌-◌, ◌<◌, length, Option, sym, refl, ap, ◌∙◌, subst, arith, rules}
-use Rattle.ladder.specs.declared.poses.PoseNumber.{PoseNumber}
+use Rattle.std.proofs.Common.{◌≡◌, suc, ◌+◌, ◌-◌, length, refl, ap, ◌∙◌, subst, arith}
 use Rattle.enumeration.specs.declared.records.Station.{Station}
-use Rattle.resolver.specs.Sound.{IsBest, WritesSteps}
+use Rattle.resolver.specs.Sound.{WritesSteps}
 use Rattle.resolver.proofs.TakesNext.{takes_nothing, takes_none, takes_one}
 use Rattle.resolver.proofs.tables.Core.take_next.Goals as goal
 

@@ -1,9 +1,9 @@
-use Rattle.std.proofs.Common.{◌≡◌, ℕ, zero, suc, ◌+◌, ◌-◌, ◌<◌, ◌≤◌, length, sym, refl, ap, ◌∙◌, subst, add-one, arith}
+use Rattle.std.proofs.Common.{◌≡◌, suc, ◌+◌, ◌-◌, ◌<◌, ◌≤◌, sym, ap, ◌∙◌, subst, add-one, arith}
 use Rattle.ladder.specs.declared.poses.Step.{Step}
 use Rattle.enumeration.specs.declared.records.Ranked.{Ranked}
 use Rattle.enumeration.specs.declared.records.Station.{Station}
 use Rattle.enumeration.proofs.Reading.{read_onto, read_none, read_is, step_in}
-use Rattle.resolver.specs.Tables.{tables_of, width, station_at, track_at}
+use Rattle.resolver.specs.Tables.{tables_of, station_at, track_at}
 use Rattle.resolver.proofs.Writing.{step_back, next_in_use}
 use Rattle.resolver.proofs.tables.Core.write.Goals as goal
 

@@ -1,4 +1,4 @@
-use Rattle.std.proofs.Common.{◌≡◌, ℕ, suc, ◌+◌, ◌<◌, ◌≤◌, length}
+use Rattle.std.proofs.Common.{◌≡◌, ℕ, suc, ◌<◌, ◌≤◌}
 use Rattle.enumeration.specs.Sound.{RungsSound}
 use Rattle.enumeration.proofs.Reading.{read_onto}
 use Rattle.resolver.specs.Tables.{tables_of, width}

@@ -1,4 +1,4 @@
-use Rattle.std.proofs.Common.{◌≡◌, ℕ, ◌+◌, ◌-◌, ◌≤◌, cond, ltb, List, length, set, sym, ap, ◌∙◌, arith, rules}
+use Rattle.std.proofs.Common.{ℕ, ◌+◌, ◌-◌, ◌≤◌, List, length, set, sym, ap, rules}
 use Rattle.ladder.specs.declared.poses.Pose.{Pose}
 use Rattle.sources.specs.declared.pages.Page.{Page}
 use Rattle.std.proofs.lemmas.List.{set_past}
