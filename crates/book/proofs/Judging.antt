@@ -1,6 +1,6 @@
 -- Seeking, track by track. Assumes nothing.
 use Rattle.std.proofs.Common.{◌≡◌, ℕ, zero, suc, ◌+◌, ◌<◌, ◌≤◌, Bool, true, false, cond, ltb, List, [], ◌∷◌, ◌++◌, length, get_or, drop, sym, refl, ap, ◌∙◌, arith, length-append, length-drop}
-use Rattle.std.specs.List.{AllByRecursion as All}
+use Rattle.std.specs.List.{AllByRecursion}
 use Rattle.std.proofs.lemmas.List.{drop_at}
 use Rattle.std.proofs.ByRecursion.{All-get_or}
 use Rattle.std.proofs.lemmas.Bool.{ltb-true, ltb-false}
@@ -20,7 +20,7 @@ last_judged rs us (suc m) out = written (steps rs (get_or us m [])) out
 
 -- each track has a step for each rung
 abbrev pub Long : Ladder → List Track → Type 0
-Long rs us = All (λ u. length (steps rs u) ≡ length rs) us
+Long rs us = AllByRecursion (λ u. length (steps rs u) ≡ length rs) us
 
 -- writing over as many steps
 pub written_twice : (ss us out : List Step) → length ss ≡ length us → written us (written ss out) ≡ written us out

@@ -1,6 +1,6 @@
 -- The least candidate of a pose, drawn as its next rank. Assumes nothing.
 use Rattle.std.proofs.Common.{◌≡◌, ℕ, suc, ◌+◌, ◌-◌, ◌<◌, ◌≤◌, true, cond, ◌⊎◌, List, [], ◌∷◌, length, get_or, take, Some, None, Option, sym, refl, ap, ◌∙◌, inl, inr, arith, MatchOption}
-use Rattle.std.specs.List.{AllByRecursion as All}
+use Rattle.std.specs.List.{AllByRecursion}
 use Rattle.std.proofs.ByRecursion.{All-weaker, all_shuffled}
 use Rattle.std.proofs.lemmas.Bool.{cases_eq, true≢false, false≢true, lt-ltb}
 use Rattle.ladder.specs.declared.poses.Limits.{Limits}
@@ -66,7 +66,7 @@ module _ {C P : Type 0} (c : Rules C P) (laws : Lawful c) (l : Limits) (b : Boun
   next : (x : Candidate C) → Drawn c w t m (suc p) v x → RankedNext c l (poses t (suc p)) (poses t p) (ladder t p) v (t.station (suc p) v).found used x × FoundSoFar c l (poses t (suc p)) (poses t p) (ladder t p) v (suc (t.station (suc p) v).found) (bumped used (origin_of x)) (only_at (origin_of x)) (m.slots (suc p) v) ((t.station (suc p) v).waiting - 1)
   next x d = popped_next c laws l b (poses t (suc p)) (poses t p) (ladder t p) short_ladder v upper (t.station (suc p) v).found used x (t.slots (suc p) v) (m.slots (suc p) v) (t.station (suc p) v).waiting ((t.station (suc p) v).waiting - 1) g.so_far d.popped
 
-  lie : (x : Candidate C) → Drawn c w t m (suc p) v x → All (ExtendsAt t p) (x ∷ take ((t.station (suc p) v).waiting - 1) (m.slots (suc p) v))
+  lie : (x : Candidate C) → Drawn c w t m (suc p) v x → AllByRecursion (ExtendsAt t p) (x ∷ take ((t.station (suc p) v).waiting - 1) (m.slots (suc p) v))
   lie x d = all_shuffled (ExtendsAt t p) (take (t.station (suc p) v).waiting (t.slots (suc p) v)) (x ∷ take ((t.station (suc p) v).waiting - 1) (m.slots (suc p) v)) d.popped.items g.lie
 
   rank_used : (x : Candidate C) → Drawn c w t m (suc p) v x → x.back.rank.0 ≡ used (origin_of x)
@@ -140,7 +140,7 @@ module _ {C P : Type 0} (c : Rules C P) (laws : Lawful c) (l : Limits) (b : Boun
         last : (n : ℕ) → suc n ≡ (m.station (suc p) v).found → Lies m (suc p) v n (m.station (suc p) v).last.0
         last = (draws_block_sound h).lasts v (omega (arith, kept.sizes (suc p) (omega arith)))
 
-        moved : (xs : List (Candidate C)) → All (ExtendsAt t p) xs → All (ExtendsAt m p) xs
+        moved : (xs : List (Candidate C)) → AllByRecursion (ExtendsAt t p) xs → AllByRecursion (ExtendsAt m p) xs
         moved xs = All-weaker (ExtendsAt t p) (ExtendsAt m p) (λ x. lies x.back.pose.0 x.back.rank.0 x.place.0) xs
 
         at : (o : Option (Candidate C)) → MatchOption o (Settled c w t m (suc p) v) (λ x. Drawn c w t m (suc p) v x) → PoseSound c l m (suc p) v
@@ -151,7 +151,7 @@ module _ {C P : Type 0} (c : Rules C P) (laws : Lawful c) (l : Limits) (b : Boun
             used,
             record {
               so_far = coe 1 0 (j. FoundSoFar c l (high j) (low j) (rest j) v (s.station j).found used (cond (s.station j).pending (only_at (last_back m (suc p) v).pose.0) nowhere) (s.slots j) (waiting j)) g.so_far;
-              lie = coe 1 0 (j. All (ExtendsAt m p) (take (waiting j) (s.slots j))) (moved (take (t.station (suc p) v).waiting (t.slots (suc p) v)) g.lie);
+              lie = coe 1 0 (j. AllByRecursion (ExtendsAt m p) (take (waiting j) (s.slots j))) (moved (take (t.station (suc p) v).waiting (t.slots (suc p) v)) g.lie);
               room = coe 1 0 (j. waiting j + cond (s.station j).pending 1 0 ≤ size j) (omega arith);
               pending = λ e. absurd (false≢true (sym (ap (λ (z : Station). z.pending) s.station) ∙ e));
               settled = λ e. coe 1 0 (j. length (ending c l (lad j) v) ≤ (s.station j).found) (settled_all s);
@@ -168,7 +168,7 @@ module _ {C P : Type 0} (c : Rules C P) (laws : Lawful c) (l : Limits) (b : Boun
             bumped used (origin_of x),
             record {
               so_far = coe 1 0 (j. FoundSoFar c l (high j) (low j) (rest j) v (found j) (bumped used (origin_of x)) (cond (pending j) (only_at (back j).pose.0) nowhere) (m.slots (suc p) v) (waiting j)) (next x s).1;
-              lie = coe 1 0 (j. All (ExtendsAt m p) (take (waiting j) (m.slots (suc p) v))) (moved (take ((t.station (suc p) v).waiting - 1) (m.slots (suc p) v)) (lie x s).1);
+              lie = coe 1 0 (j. AllByRecursion (ExtendsAt m p) (take (waiting j) (m.slots (suc p) v))) (moved (take ((t.station (suc p) v).waiting - 1) (m.slots (suc p) v)) (lie x s).1);
               room = coe 1 0 (j. waiting j + cond (pending j) 1 0 ≤ size j) (omega (arith, s.popped.size));
               pending = λ e. (omega (arith, found), coe 1 0 (j. bumped used (origin_of x) (back j).pose.0 ≡ (back j).rank.0 + 1) (bump_at used (origin_of x) (origin_of x) refl ∙ omega (arith, rank_used x s)));
               settled = λ e. absurd (true≢false (sym pending ∙ e));

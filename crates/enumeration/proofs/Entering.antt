@@ -1,6 +1,6 @@
 -- A candidate that is entered at a pose. Assumes nothing.
 use Rattle.std.proofs.Common.{◌≡◌, ℕ, suc, ◌+◌, ◌<◌, ◌≤◌, Bool, true, false, cond, ◌⊎◌, [], ◌∷◌, length, get_or, take, IfSome, Some, None, Option, sym, refl, ap, ◌∙◌, inl, inr, arith, MatchOption}
-use Rattle.std.specs.List.{AllByRecursion as All}
+use Rattle.std.specs.List.{AllByRecursion}
 use Rattle.std.proofs.ByRecursion.{All-weaker, all_shuffled}
 use Rattle.std.proofs.lemmas.Bool.{false≢true, cases_eq}
 use Rattle.ladder.specs.declared.poses.Pose.{Pose}
@@ -28,7 +28,7 @@ ExtendsAt t p x = Lies t p x.back.pose.0 x.back.rank.0 x.place.0
 pub record Gathered {C P : Type 0} (c : Rules C P) (l : Limits) (t : Tables C) (p v : ℕ) (used due : ℕ → ℕ) : Type 0 where
   pub some : (t.station (suc p) v).found ≤ length (ends c l t (suc p) v)
   pub so_far : FoundSoFar c l (poses t (suc p)) (poses t p) (ladder t p) v (t.station (suc p) v).found used due (t.slots (suc p) v) (t.station (suc p) v).waiting
-  pub lie : All (ExtendsAt t p) (take (t.station (suc p) v).waiting (t.slots (suc p) v))
+  pub lie : AllByRecursion (ExtendsAt t p) (take (t.station (suc p) v).waiting (t.slots (suc p) v))
 
 -- ---- what there is to enter
 
@@ -105,7 +105,7 @@ module _ {C P : Type 0} (c : Rules C P) (laws : Lawful c) (l : Limits) (b : Boun
   upper = omega (arith, length_poses t (suc p))
 
   -- the same, said of the tables after
-  gathered_after : (used due : ℕ → ℕ) → KeptButWaiting w t k (suc p) v → (t.station (suc p) v).found ≤ length (ends c l t (suc p) v) → FoundSoFar c l (poses t (suc p)) (poses t p) (ladder t p) v (t.station (suc p) v).found used due (k.slots (suc p) v) (k.station (suc p) v).waiting → All (ExtendsAt t p) (take (k.station (suc p) v).waiting (k.slots (suc p) v)) → Gathered c l k p v used due
+  gathered_after : (used due : ℕ → ℕ) → KeptButWaiting w t k (suc p) v → (t.station (suc p) v).found ≤ length (ends c l t (suc p) v) → FoundSoFar c l (poses t (suc p)) (poses t p) (ladder t p) v (t.station (suc p) v).found used due (k.slots (suc p) v) (k.station (suc p) v).waiting → AllByRecursion (ExtendsAt t p) (take (k.station (suc p) v).waiting (k.slots (suc p) v)) → Gathered c l k p v used due
   gathered_after used due kept some so_far lie = record {
     some = coe 1 0 (j. found j ≤ length (ending c l (lad j) v)) some;
     so_far = coe 1 0 (j. FoundSoFar c l (high j) (low j) (rest j) v (found j) used due (k.slots (suc p) v) (k.station (suc p) v).waiting) so_far;
@@ -139,7 +139,7 @@ module _ {C P : Type 0} (c : Rules C P) (laws : Lawful c) (l : Limits) (b : Boun
       let v16 : v < 16 = omega (arith, few (suc p) (omega arith)) in
       let s = same.stations (suc p) v v16 in
       let xs = same.slots (suc p) v v16 in
-      gathered_after used due' (unchanged_kept w t k (suc p) v v16 same) g.some (coe 1 0 (j. FoundSoFar c l (poses t (suc p)) (poses t p) (ladder t p) v (t.station (suc p) v).found used due' (xs j) (s j).waiting) (skipped_found c laws l b (poses t (suc p)) (poses t p) (ladder t p) (short_ladder c laws l b t p v short hv rung) v upper (t.station (suc p) v).found used due due' u (t.slots (suc p) v) (t.station (suc p) v).waiting g.so_far shut less)) (coe 1 0 (j. All (ExtendsAt t p) (take (s j).waiting (xs j))) g.lie)
+      gathered_after used due' (unchanged_kept w t k (suc p) v v16 same) g.some (coe 1 0 (j. FoundSoFar c l (poses t (suc p)) (poses t p) (ladder t p) v (t.station (suc p) v).found used due' (xs j) (s j).waiting) (skipped_found c laws l b (poses t (suc p)) (poses t p) (ladder t p) (short_ladder c laws l b t p v short hv rung) v upper (t.station (suc p) v).found used due due' u (t.slots (suc p) v) (t.station (suc p) v).waiting g.so_far shut less)) (coe 1 0 (j. AllByRecursion (ExtendsAt t p) (take (s j).waiting (xs j))) g.lie)
 
   -- the first unused track of a pose where one is due is entered, if the move is admissible
   pub enters_gathered : (i : ℕ) (used due due' : ℕ → ℕ) → i < t.used p → used (t.track p i).pose.0 ≡ (t.track p i).rank.0 → ((z : ℕ) → due' z + only_at (t.track p i).pose.0 z ≡ due z) → Enters c w t k l p v i → Gathered c l t p v used due → Gathered c l k p v used due' × ((k.station (suc p) v).waiting ≤ (t.station (suc p) v).waiting + 1)

@@ -1,6 +1,6 @@
 -- The first track at a pose of the rung that is being filled is found, or there is none. Assumes nothing.
 use Rattle.std.proofs.Common.{◌≡◌, ℕ, zero, suc, ◌+◌, ◌<◌, ◌≤◌, Bool, true, false, cond, ltb, ◌⊎◌, [], ◌∷◌, length, get_or, take, sym, refl, ap, ◌∙◌, inl, inr, arith}
-use Rattle.std.specs.List.{AllByRecursion as All}
+use Rattle.std.specs.List.{AllByRecursion}
 use Rattle.std.proofs.lemmas.Bool.{ltb-true, ltb-false, le-leb, lt-leb, eq-eqb, ne_eqb, cases_order, cases_eq}
 use Rattle.ladder.specs.declared.poses.Limits.{Limits}
 use Rattle.ladder.specs.Rules.{Rules, Lawful}
@@ -50,7 +50,7 @@ module _ {C P : Type 0} (c : Rules C P) (l : Limits) (t : Tables C) where
       waits = record { each = tt; once = λ u. omega (arith, all_due u); every = λ u o. omega (arith, all_due u) };
       heap = record { sound = λ k d i. absurd (omega arith); heaped = λ x k d _ _ _ i. absurd (omega arith) };
     });
-    lie = coe 1 0 (j. All (λ x. Lies t p x.back.pose.0 x.back.rank.0 x.place.0) (take (none j) (t.slots (suc p) v))) tt;
+    lie = coe 1 0 (j. AllByRecursion (λ x. Lies t p x.back.pose.0 x.back.rank.0 x.place.0) (take (none j) (t.slots (suc p) v))) tt;
   }
     where
       here : t.station (suc p) v ≡ blank (t.station (suc p) v).pose

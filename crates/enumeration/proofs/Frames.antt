@@ -1,6 +1,6 @@
 -- What stays sound where the tables t become the tables m. Assumes nothing.
 use Rattle.std.proofs.Common.{◌≡◌, ℕ, zero, suc, ◌+◌, ◌-◌, ◌<◌, ◌≤◌, Bool, true, false, cond, ◌⊎◌, [], ◌∷◌, length, get_or, take, sym, refl, ap, ◌∙◌, inl, inr, arith}
-use Rattle.std.specs.List.{AllByRecursion as All}
+use Rattle.std.specs.List.{AllByRecursion}
 use Rattle.std.proofs.lemmas.List.FromFn.{length-map-range_with_len, get_or-map-range_with_len, fill_by_all}
 use Rattle.std.proofs.ByRecursion.{All-weaker}
 use Rattle.std.proofs.lemmas.Bool.{cases_eq}
@@ -109,7 +109,7 @@ module _ {C P : Type 0} (c : Rules C P) (l : Limits) (t m : Tables C) where
   candidates_kept : (p u : ℕ) (used : ℕ → ℕ) → PosesKept t m (suc (suc p)) → m.station (suc p) u ≡ t.station (suc p) u → m.slots (suc p) u ≡ t.slots (suc p) u → (0 < (t.station (suc p) u).found → last_back m (suc p) u ≡ last_back t (suc p) u) → LiesOn t m p → CandidatesSound c l t p u used → CandidatesSound c l m p u used
   candidates_kept p u used k s xs back lies h = record {
     so_far = coe 1 0 (j. FoundSoFar c l (upper j) (lower j) (rest j) u (s j).found used (due j) (xs j) (s j).waiting) h.so_far;
-    lie = coe 1 0 (j. All (λ x. Lies m p x.back.pose.0 x.back.rank.0 x.place.0) (take (s j).waiting (xs j))) (All-weaker (λ x. Lies t p x.back.pose.0 x.back.rank.0 x.place.0) (λ x. Lies m p x.back.pose.0 x.back.rank.0 x.place.0) (λ x. lies x.back.pose.0 x.back.rank.0 x.place.0) (take (t.station (suc p) u).waiting (t.slots (suc p) u)) h.lie);
+    lie = coe 1 0 (j. AllByRecursion (λ x. Lies m p x.back.pose.0 x.back.rank.0 x.place.0) (take (s j).waiting (xs j))) (All-weaker (λ x. Lies t p x.back.pose.0 x.back.rank.0 x.place.0) (λ x. Lies m p x.back.pose.0 x.back.rank.0 x.place.0) (λ x. lies x.back.pose.0 x.back.rank.0 x.place.0) (take (t.station (suc p) u).waiting (t.slots (suc p) u)) h.lie);
     room = coe 1 0 (j. (s j).waiting + cond (s j).pending 1 0 ≤ k.sizes p (omega arith) j) h.room;
     pending = λ e. let h = h.pending (was e) in let b = back h.0 in (coe 1 0 (j. 0 < (s j).found) h.0, coe 1 0 (j. used (b j).pose.0 ≡ (b j).rank.0 + 1) h.1);
     settled = λ e. coe 1 0 (j. length (ending c l (lad j) u) ≤ (s j).found) (h.settled (sym (ap (λ (z : Station). z.pending) s) ∙ e));

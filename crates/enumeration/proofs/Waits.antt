@@ -2,7 +2,7 @@
 use Rattle.std.proofs.Common.{◌≡◌, ℕ, suc, ◌+◌, ◌<◌, ◌≤◌, Bool, true, false, cond, eqb, List, [], ◌∷◌, length, get_or, take, Some, None, sum_by, sym, refl, ap, ◌∙◌, subst, arith}
 use Rattle.std.specs.Ordering.{is_le}
 use Rattle.std.specs.List.Sorted.{IsPermutation}
-use Rattle.std.specs.List.{AllByRecursion as All}
+use Rattle.std.specs.List.{AllByRecursion}
 use Rattle.std.proofs.lemmas.List.Sums.{sum_by-cons}
 use Rattle.std.proofs.lemmas.List.{get_or-take, length-take}
 use Rattle.std.proofs.lemmas.List.Sorted.{sum_by-IsPermutation}
@@ -34,7 +34,7 @@ place_from {C} u (x ∷ xs) h = at (eqb (origin_of x) u) refl (place_from u xs)
         let i = f more in (suc i.0, omega (arith, i.1), i.2)
 
 -- where none comes from pose w, each comes from another
-others : {C : Type 0} (w : ℕ) (xs : List (Candidate C)) → sum_by (from w) xs ≡ 0 → All (λ x. eqb (origin_of x) w ≡ false) xs
+others : {C : Type 0} (w : ℕ) (xs : List (Candidate C)) → sum_by (from w) xs ≡ 0 → AllByRecursion (λ x. eqb (origin_of x) w ≡ false) xs
 others w [] h = tt
 others w (x ∷ xs) h = (at (eqb (origin_of x) w) refl, others w xs (omega (arith, h, sum_by-cons (from w) x xs)))
   where
@@ -43,7 +43,7 @@ others w (x ∷ xs) h = (at (eqb (origin_of x) w) refl, others w xs (omega (arit
     at false e = e
 
 -- what two facts give of each
-pub all_both : {X : Type 0} (P Q R : X → Type 0) → ((x : X) → P x → Q x → R x) → (xs : List X) → All P xs → All Q xs → All R xs
+pub all_both : {X : Type 0} (P Q R : X → Type 0) → ((x : X) → P x → Q x → R x) → (xs : List X) → AllByRecursion P xs → AllByRecursion Q xs → AllByRecursion R xs
 all_both P Q R f [] p q = tt
 all_both P Q R f (x ∷ xs) p q = (f x p.0 q.0, all_both P Q R f xs p.1 q.1)
 
@@ -75,11 +75,11 @@ module _ {C P : Type 0} (c : Rules C P) (laws : Lawful c) (l : Limits) (b : Boun
       at u i false e = omega (arith, h.every u i, less u, ap bit e)
 
   -- the least is drawn
-  module _ (n : ℕ) (used : ℕ → ℕ) (x : Candidate C) (xs ys : List (Candidate C)) (em : Emitted c l r q rs v n used) (h : Waits c l r q rs v used nowhere xs) (fit : All (ReachedBoth c) xs) (m : IsPermutation xs (x ∷ ys)) (least : Least (earlier c) x xs) where
-    all_x : All (StandsFor c l r q rs v used) (x ∷ ys)
+  module _ (n : ℕ) (used : ℕ → ℕ) (x : Candidate C) (xs ys : List (Candidate C)) (em : Emitted c l r q rs v n used) (h : Waits c l r q rs v used nowhere xs) (fit : AllByRecursion (ReachedBoth c) xs) (m : IsPermutation xs (x ∷ ys)) (least : Least (earlier c) x xs) where
+    all_x : AllByRecursion (StandsFor c l r q rs v used) (x ∷ ys)
     all_x = all_shuffled (StandsFor c l r q rs v used) xs (x ∷ ys) m h.each
 
-    fit_x : All (ReachedBoth c) (x ∷ ys)
+    fit_x : AllByRecursion (ReachedBoth c) (x ∷ ys)
     fit_x = all_shuffled (ReachedBoth c) xs (x ∷ ys) m fit
 
     best : (u : ℕ) → Open c l r q rs v used u → is_le (by_candidate c (candidate c l r (q ∷ rs) v (origin_of x) (used (origin_of x))) (candidate c l r (q ∷ rs) v u (used u))) ≡ true
@@ -135,7 +135,7 @@ module _ {C P : Type 0} (c : Rules C P) (laws : Lawful c) (l : Limits) (b : Boun
   pub none_next : (n : ℕ) (used : ℕ → ℕ) → Emitted c l r q rs v n used → Waits c l r q rs v used nowhere [] → length (ending c l (r ∷ q ∷ rs) v) ≤ n
   none_next n used em h = (merges n used em).done (λ u i. let k = h.every u i in omega arith)
 
-  all_fit : (xs : List (Candidate C)) (m : ℕ) (d : Candidate C) → Stands (ReachedBoth c) (earlier c) xs m → All (ReachedBoth c) (take m xs)
+  all_fit : (xs : List (Candidate C)) (m : ℕ) (d : Candidate C) → Stands (ReachedBoth c) (earlier c) xs m → AllByRecursion (ReachedBoth c) (take m xs)
   all_fit xs m d s = All-from_get_or (ReachedBoth c) (take m xs) d (λ i h. let lt : i < m = omega (arith, h, length-take m xs) in subst (ReachedBoth c) (sym (get_or-take m xs i d lt)) (s.sound i d lt))
 
   -- the same steps, over the heap that holds the candidates

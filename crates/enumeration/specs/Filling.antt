@@ -1,6 +1,6 @@
 -- Adding a rung keeps what the tables stand for: its poses are written, then the first track at each is found, pose by pose. Assumes nothing.
 use Rattle.std.specs.Prelude.{◌≡◌, ℕ, zero, suc, ◌<◌, ◌≤◌, false, cond, ◌∷◌, length, take, ◌≢◌, nat_le, nat_lt, slice_index_or}
-use Rattle.std.specs.List.{AllByRecursion as All}
+use Rattle.std.specs.List.{AllByRecursion}
 use Rattle.ladder.specs.declared.poses.Pose.{Pose}
 use Rattle.ladder.specs.declared.poses.Limits.{Limits}
 use Rattle.ladder.specs.Rules.{Rules}
@@ -101,7 +101,7 @@ module _ {C P : Type 0} (c : Rules C P) (l : Limits) (t : Tables C) where
     pub none_pending : (t.station (suc p) v).pending ≡ false
     pub room : (t.station (suc p) v).waiting ≤ u
     pub so_far : FoundSoFar c l (poses t (suc p)) (poses t p) (ladder t p) v 0 nowhere (from_on u) (t.slots (suc p) v) (t.station (suc p) v).waiting
-    pub lie : All (λ x. Lies t p x.back.pose.0 x.back.rank.0 x.place.0) (take (t.station (suc p) v).waiting (t.slots (suc p) v))
+    pub lie : AllByRecursion (λ x. Lies t p x.back.pose.0 x.back.rank.0 x.place.0) (take (t.station (suc p) v).waiting (t.slots (suc p) v))
 
 -- the first n rungs have the poses that they had
 pub record SameLadder {C : Type 0} (t m : Tables C) (n : ℕ) : Type 0 where

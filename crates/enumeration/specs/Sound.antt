@@ -1,6 +1,6 @@
 -- What the tables of a resolver stand for: of each pose the first tracks by rank, and the candidates for the next. Assumes nothing.
 use Rattle.std.specs.Prelude.{◌≡◌, ℕ, zero, suc, ◌+◌, ◌<◌, ◌≤◌, true, false, cond, List, [], ◌∷◌, length, take, slice_index_or}
-use Rattle.std.specs.List.{AllByRecursion as All}
+use Rattle.std.specs.List.{AllByRecursion}
 use Rattle.ladder.specs.declared.poses.Limits.{Limits}
 use Rattle.ladder.specs.Rules.{Rules}
 use Rattle.ladder.specs.Tracks.{Track, cost}
@@ -48,7 +48,7 @@ module _ {C P : Type 0} (c : Rules C P) (l : Limits) (t : Tables C) where
   -- the candidates of pose v of rung p + 1, where the extensions of the first `used u` tracks at each pose u of rung p are found
   pub record CandidatesSound (p v : ℕ) (used : ℕ → ℕ) : Type 0 where
     pub so_far : FoundSoFar c l (poses t (suc p)) (poses t p) (ladder t p) v (t.station (suc p) v).found used (due_at t (suc p) v) (t.slots (suc p) v) (t.station (suc p) v).waiting
-    pub lie : All (λ x. Lies t p x.back.pose.0 x.back.rank.0 x.place.0) (take (t.station (suc p) v).waiting (t.slots (suc p) v))
+    pub lie : AllByRecursion (λ x. Lies t p x.back.pose.0 x.back.rank.0 x.place.0) (take (t.station (suc p) v).waiting (t.slots (suc p) v))
     pub room : (t.station (suc p) v).waiting + cond (t.station (suc p) v).pending 1 0 ≤ t.size p
     pub pending : (t.station (suc p) v).pending ≡ true → (0 < (t.station (suc p) v).found) × (used (last_back t (suc p) v).pose.0 ≡ (last_back t (suc p) v).rank.0 + 1)
     pub settled : (t.station (suc p) v).pending ≡ false → length (ends (suc p) v) ≤ (t.station (suc p) v).found

@@ -1,6 +1,6 @@
 -- The candidates that wait at one pose. Assumes nothing.
 use Rattle.std.specs.Prelude.{◌≡◌, ℕ, ◌+◌, ◌<◌, ◌≤◌, cond, List, [], ◌∷◌, length, get_or, take, sum_by, Option, MatchOption, ◌==◌, slice_index_or}
-use Rattle.std.specs.List.{AllByRecursion as All}
+use Rattle.std.specs.List.{AllByRecursion}
 use Rattle.heap.specs.Order.{Stands}
 use Rattle.ladder.specs.declared.poses.Limits.{Limits}
 use Rattle.ladder.specs.Rules.{Rules}
@@ -34,7 +34,7 @@ module _ {C P : Type 0} (c : Rules C P) (l : Limits) (r q : Rung) (rs : Ladder) 
 
   -- exactly the candidates of the open poses wait, each once, but for the poses where `due` is 1: their candidates have yet to be entered
   pub record Waits (used due : ℕ → ℕ) (xs : List (Candidate C)) : Type 0 where
-    pub each : All (StandsFor used) xs
+    pub each : AllByRecursion (StandsFor used) xs
     pub once : (u : ℕ) → due u + sum_by (from u) xs ≤ 1
     pub every : (u : ℕ) → Open c l r q rs v used u → 1 ≤ due u + sum_by (from u) xs
 

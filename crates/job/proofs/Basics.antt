@@ -1,7 +1,7 @@
 -- The fields of a job file: bytes, numbers, parts and pose lists.
 use Rattle.std.proofs.Common.{◌≡◌, ℕ, zero, suc, ◌+◌, ◌*◌, ◌/◌, ◌%◌, ◌<◌, ◌≤◌, Bool, true, false, cond, leb, List, [], ◌∷◌, ◌++◌, length, get_or, take, drop, replicate, ℤ, pos, sym, refl, ap, ◌∙◌, subst, ⊎_elim, add-zero, add_assoc, arith, w16, SFits, to_z, of_z}
 use mir.Facts.{sfits_to_z}
-use Rattle.std.specs.List.{flat_map, AllByRecursion as All}
+use Rattle.std.specs.List.{flat_map, AllByRecursion}
 use Rattle.std.proofs.lemmas.List.{length-append, length-drop, length-take, length-take-le, take-append-drop, drop-drop, drop_more, take_at, get_or-take, get_or-drop, get_or_past, append-nil, drop_all, length-replicate}
 use Rattle.std.proofs.ByRecursion.{All-from_get_or}
 use Rattle.std.proofs.lemmas.List.Prefix.{at_reads}
@@ -93,13 +93,13 @@ part_size_is s p n h = length-take-le n (drop p s) (omega (arith, length-drop p 
 part_rest : (s : List ℕ) (p n : ℕ) → drop p s ≡ take n (drop p s) ++ drop (p + n) s
 part_rest s p n = sym (take-append-drop n (drop p s)) ∙ ap (λ x. take n (drop p s) ++ x) (drop-drop n p s)
 
-pub part_tested : (n : ℕ) → Tested n (part_at n) (λ l. l) (λ l. (length l ≡ n) × All (λ b. b < 256) l) (λ s p. leb (p + n) (length s)) (λ rest. leb n (length rest))
-part_tested n = whole_tested n (part_at n) (λ l. l) (λ l. (length l ≡ n) × All (λ b. b < 256) l) (λ a f. f.0)
+pub part_tested : (n : ℕ) → Tested n (part_at n) (λ l. l) (λ l. (length l ≡ n) × AllByRecursion (λ b. b < 256) l) (λ s p. leb (p + n) (length s)) (λ rest. leb n (length rest))
+part_tested n = whole_tested n (part_at n) (λ l. l) (λ l. (length l ≡ n) × AllByRecursion (λ b. b < 256) l) (λ a f. f.0)
     (λ s p bs h. ((part_size_is s p n h, All-from_get_or (λ b. b < 256) (take n (drop p s)) 0 (λ i l. bytes_part s p n bs i)), part_rest s p n))
     (λ s p a rest f e. ap (take n) e ∙ take_at a rest n f.0)
     (replicate n 0, (length-replicate n 0, all_zero n))
   where
-    all_zero : (m : ℕ) → All (λ b. b < 256) (replicate m 0)
+    all_zero : (m : ℕ) → AllByRecursion (λ b. b < 256) (replicate m 0)
     all_zero zero = tt
     all_zero (suc m) = (omega arith, all_zero m)
 
@@ -107,7 +107,7 @@ part_tested n = whole_tested n (part_at n) (λ l. l) (λ l. (length l ≡ n) × 
 abbrev pub PoseFits : Counts → Type 0
 PoseFits c = SFits w16 c.shoulder × SFits w16 c.elbow
 
-poses_read : (n : ℕ) (s : List ℕ) (p : ℕ) → Bytes s → p + n * 4 ≤ length s → All PoseFits (poses_at s p n) × (drop p s ≡ flat_map pose_bytes (poses_at s p n) ++ drop (p + n * 4) s)
+poses_read : (n : ℕ) (s : List ℕ) (p : ℕ) → Bytes s → p + n * 4 ≤ length s → AllByRecursion PoseFits (poses_at s p n) × (drop p s ≡ flat_map pose_bytes (poses_at s p n) ++ drop (p + n * 4) s)
 poses_read zero s p bs h = (tt, ap (λ k. drop k s) (let e : p ≡ p + 0 * 4 = omega arith in e))
 poses_read (suc n) s p bs h =
     let a = signed_reads s p bs (omega arith) in
@@ -121,7 +121,7 @@ poses_read (suc n) s p bs h =
       a.1 ∙ ap (λ l. x ++ l) (b.1 ∙ ap (λ k. y ++ drop k s) two ∙ ap (λ l. y ++ l) (r.1 ∙ ap (λ k. flat_map pose_bytes (poses_at s (p + 4) n) ++ drop k s) end)),
     )
 
-poses_say : (l : List Counts) (s : List ℕ) (p : ℕ) (rest : List ℕ) → All PoseFits l → drop p s ≡ flat_map pose_bytes l ++ rest → poses_at s p (length l) ≡ l
+poses_say : (l : List Counts) (s : List ℕ) (p : ℕ) (rest : List ℕ) → AllByRecursion PoseFits l → drop p s ≡ flat_map pose_bytes l ++ rest → poses_at s p (length l) ≡ l
 poses_say [] s p rest f e = refl
 poses_say (c ∷ l) s p rest f e =
     let x = signed_bytes c.shoulder in
@@ -150,8 +150,8 @@ length_spelled (c ∷ l) = omega (arith, length_spelled l, length-append (pose_b
 abbrev pub list_at : ℕ → List ℕ → ℕ → List Counts
 list_at n s p = poses_of_bytes (take (n * 4) (drop p s))
 
-pub list_tested : (n : ℕ) → Tested (n * 4) (list_at n) (flat_map pose_bytes) (λ l. (length l ≡ n) × All PoseFits l) (λ s p. leb (p + n * 4) (length s)) (λ rest. leb (n * 4) (length rest))
-list_tested n = whole_tested (n * 4) (list_at n) (flat_map pose_bytes) (λ l. (length l ≡ n) × All PoseFits l)
+pub list_tested : (n : ℕ) → Tested (n * 4) (list_at n) (flat_map pose_bytes) (λ l. (length l ≡ n) × AllByRecursion PoseFits l) (λ s p. leb (p + n * 4) (length s)) (λ rest. leb (n * 4) (length rest))
+list_tested n = whole_tested (n * 4) (list_at n) (flat_map pose_bytes) (λ l. (length l ≡ n) × AllByRecursion PoseFits l)
     (λ l f. length_spelled l ∙ ap (λ k. k * 4) f.0)
     (λ s p bs h.
     let t = take (n * 4) (drop p s) in
@@ -167,7 +167,7 @@ list_tested n = whole_tested (n * 4) (list_at n) (flat_map pose_bytes) (λ l. (l
     ap poses_of_bytes t ∙ ap (poses_at (flat_map pose_bytes l) 0) count ∙ poses_say l (flat_map pose_bytes l) 0 [] f.1 (sym (append-nil (flat_map pose_bytes l))))
     (replicate n (record { shoulder = pos 0; elbow = pos 0 }), (length-replicate n (record { shoulder = pos 0; elbow = pos 0 }), all_zero n))
   where
-    all_zero : (m : ℕ) → All PoseFits (replicate m (record { shoulder = pos 0; elbow = pos 0 }))
+    all_zero : (m : ℕ) → AllByRecursion PoseFits (replicate m (record { shoulder = pos 0; elbow = pos 0 }))
     all_zero zero = tt
     all_zero (suc m) = ((record { sfits = omega arith }, record { sfits = omega arith }), all_zero m)
 

@@ -1,6 +1,6 @@
 -- Readers that keep to a layout, and how larger ones are made of smaller ones.
 use Rattle.std.proofs.Common.{◌≡◌, ℕ, zero, suc, ◌+◌, ◌<◌, ◌≤◌, Bool, true, false, cond, ◌⊎◌, List, [], ◌∷◌, ◌++◌, length, get_or, drop, Some, None, Option, sym, refl, ap, ◌∙◌, subst, inl, inr, ⊎_elim, append_assoc, add-zero, arith}
-use Rattle.std.specs.List.{flat_map, AllByRecursion as All}
+use Rattle.std.specs.List.{flat_map, AllByRecursion}
 use Rattle.std.proofs.lemmas.List.{length-append, length-drop, drop-drop, drop_at, nil_from_length}
 use Rattle.std.proofs.ByRecursion.{All-append}
 use Rattle.job.specs.declared.faults.Question.{Question}
@@ -44,7 +44,7 @@ pub record Lawful {A : Type 0} (r : Read A) (w : A → List Piece) (fit : A → 
   pub full : (s : List ℕ) (p : ℕ) (a : A) (rest : List ℕ) → p ≤ length s → fit a → drop p s ≡ written (w a) ++ rest → r s p ≡ got a (p + length (written (w a)))
   pub stops : (s : List ℕ) (p : ℕ) (n : Question) (k : ℕ) → Bytes s → p ≤ length s → r s p ≡ fault n k → (a : A) × fit a × Stops (w a) s p n k
   pub first : (s : List ℕ) (p : ℕ) (n : Question) (k : ℕ) (a : A) → p ≤ length s → fit a → Stops (w a) s p n k → r s p ≡ fault n k
-  pub clear : (a : A) → fit a → All Answered (w a)
+  pub clear : (a : A) → fit a → AllByRecursion Answered (w a)
   pub some : (a : A) × fit a
 
 -- bytes and places
@@ -193,7 +193,7 @@ lawful_again r' w' fit' same laid there back x = record {
       (t.0, there t.0 t.1, subst (λ l. Stops l s p n k) (laid t.0 t.1) t.2);
   first = λ s p n k a h w t.
       sym (same s p) ∙ x.first s p n k a h (back a w) (subst (λ l. Stops l s p n k) (sym (laid a (back a w))) t);
-  clear = λ a w. subst (All Answered) (laid a (back a w)) (x.clear a (back a w));
+  clear = λ a w. subst (AllByRecursion Answered) (laid a (back a w)) (x.clear a (back a w));
   some = (x.some.0, there x.some.0 x.some.1);
 }
 
@@ -256,7 +256,7 @@ module _ {A : Type 0} {r : Read A} {w : A → List Piece} {fit : A → Type 0} (
           | None ↦ λ v t. absurd (nothing_stops s p n k t)
           | Some a ↦ λ v t. then_not (r s p) (λ b q. got (Some b) q) n k (x.first s p n k a h v.1 t)
         ];
-    clear = λ o. elim o as (λ v. fits_opt true fit v → All Answered (optional w v)) [ None ↦ λ v. tt | Some a ↦ λ v. x.clear a v.1 ];
+    clear = λ o. elim o as (λ v. fits_opt true fit v → AllByRecursion Answered (optional w v)) [ None ↦ λ v. tt | Some a ↦ λ v. x.clear a v.1 ];
     some = (Some x.some.0, (refl, x.some.1));
   }
 
@@ -277,7 +277,7 @@ module _ {A : Type 0} {r : Read A} {w : A → List Piece} {fit : A → Type 0} (
           | None ↦ λ v t. absurd (nothing_stops s p n k t)
           | Some a ↦ λ v t. (let z : ◌≡◌ {A = ℕ} 0 1 = cc v.0 in absurd (omega arith))
         ];
-    clear = λ o. elim o as (λ v. fits_opt false fit v → All Answered (optional w v)) [ None ↦ λ v. tt | Some a ↦ λ v. (let z : ◌≡◌ {A = ℕ} 0 1 = cc v.0 in absurd (omega arith)) ];
+    clear = λ o. elim o as (λ v. fits_opt false fit v → AllByRecursion Answered (optional w v)) [ None ↦ λ v. tt | Some a ↦ λ v. (let z : ◌≡◌ {A = ℕ} 0 1 = cc v.0 in absurd (omega arith)) ];
     some = (None, refl);
   }
 
@@ -313,39 +313,39 @@ many_cons {A} n r s p = held (r s p)
     held (fault m q) = refl
 
 module _ {A : Type 0} {r : Read A} {w : A → List Piece} {fit : A → Type 0} (x : Lawful r w fit) where
-  none_lawful : Lawful (many 0 r) (flat_map w) (λ l. (length l ≡ 0) × All fit l)
+  none_lawful : Lawful (many 0 r) (flat_map w) (λ l. (length l ≡ 0) × AllByRecursion fit l)
   none_lawful = record {
     sound = λ s p l q bs h e.
         let i : [] ≡ l = cc in
         let j : p ≡ q = cc in
-        subst (λ v. ((length v ≡ 0) × All fit v) × Stands (flat_map w v) s p q) i ((refl, tt), record { room = omega arith; far = omega arith; bytes = ap (λ n. drop n s) j });
+        subst (λ v. ((length v ≡ 0) × AllByRecursion fit v) × Stands (flat_map w v) s p q) i ((refl, tt), record { room = omega arith; far = omega arith; bytes = ap (λ n. drop n s) j });
     full = λ s p l rest h v e.
         let i = nil_from_length l v.0 in
         subst (λ m. many 0 r s p ≡ got m (p + length (written (flat_map w m)))) (sym i) (ap (got []) (sym (add-zero p)));
     stops = λ s p n k bs h e. absurd (never e);
     first = λ s p n k l h v t. absurd (nothing_stops s p n k (subst (λ m. Stops (flat_map w m) s p n k) (nil_from_length l v.0) t));
-    clear = λ l v. subst (λ m. All Answered (flat_map w m)) (sym (nil_from_length l v.0)) tt;
+    clear = λ l v. subst (λ m. AllByRecursion Answered (flat_map w m)) (sym (nil_from_length l v.0)) tt;
     some = ([], (refl, tt));
   }
 
   abbrev fit_cons : A → ℕ → List A → Type 0
-  fit_cons d n l = (fit (uncons d l).0 × ((length (uncons d l).1 ≡ n) × All fit (uncons d l).1)) × (cons (uncons d l) ≡ l)
+  fit_cons d n l = (fit (uncons d l).0 × ((length (uncons d l).1 ≡ n) × AllByRecursion fit (uncons d l).1)) × (cons (uncons d l) ≡ l)
 
   laid : (d : A) (n : ℕ) (l : List A) → fit_cons d n l → w (uncons d l).0 ++ flat_map w (uncons d l).1 ≡ flat_map w l
   laid d n [] v = let z : ◌≡◌ {A = ℕ} 0 1 = cc v.1 in absurd (omega arith)
   laid d n (a ∷ l) v = refl
 
-  there : (d : A) (n : ℕ) (l : List A) → fit_cons d n l → (length l ≡ suc n) × All fit l
+  there : (d : A) (n : ℕ) (l : List A) → fit_cons d n l → (length l ≡ suc n) × AllByRecursion fit l
   there d n [] v = let z : ◌≡◌ {A = ℕ} 0 1 = cc v.1 in absurd (omega arith)
   there d n (a ∷ l) v = (ap suc v.0.1.0, (v.0.0, v.0.1.1))
 
-  back : (d : A) (n : ℕ) (l : List A) → (length l ≡ suc n) × All fit l → fit_cons d n l
+  back : (d : A) (n : ℕ) (l : List A) → (length l ≡ suc n) × AllByRecursion fit l → fit_cons d n l
   back d n [] v = absurd (omega (arith, v.0))
   back d n (a ∷ l) v = ((v.1.0, (let e : length l ≡ n = omega (arith, v.0) in e, v.1.1)), refl)
 
-  pub many_lawful : (n : ℕ) → Lawful (many n r) (flat_map w) (λ l. (length l ≡ n) × All fit l)
+  pub many_lawful : (n : ℕ) → Lawful (many n r) (flat_map w) (λ l. (length l ≡ n) × AllByRecursion fit l)
   many_lawful zero = none_lawful
   many_lawful (suc n) =
       let d = x.some.0 in
-      lawful_again (many (suc n) r) (flat_map w) (λ l. (length l ≡ suc n) × All fit l) (many_cons n r) (laid d n) (there d n) (back d n)
+      lawful_again (many (suc n) r) (flat_map w) (λ l. (length l ≡ suc n) × AllByRecursion fit l) (many_cons n r) (laid d n) (there d n) (back d n)
       (via_lawful cons (uncons d) (λ c. refl) (pair_lawful x (many_lawful n)))

@@ -1,6 +1,6 @@
 -- The letters, the maps, the header's fields and a record keep to the layout.
 use Rattle.std.proofs.Common.{◌≡◌, ℕ, zero, suc, ◌+◌, ◌*◌, ◌<◌, ◌≤◌, Bool, true, false, not, ◌&&◌, ◌||◌, eqb, leb, List, [], ◌∷◌, length, get_or, take, drop, ℤ, is_some, IfSome, Some, None, Option, sym, refl, ap, ◌∙◌, subst, ⊎_elim, add-zero, arith, w16, SFits}
-use Rattle.std.specs.List.{flat_map, AllByRecursion as All}
+use Rattle.std.specs.List.{flat_map, AllByRecursion}
 use Rattle.std.proofs.lemmas.List.{get_or-drop}
 use Rattle.std.proofs.lemmas.List.Prefix.{at_reads, at_from_reads}
 use Rattle.std.proofs.lemmas.Bool.{leb-true, le-leb, eqb-true, eq-eqb, and_parts, and_from, or_cases, cases_lt, both_ways, not_from_true}
@@ -98,9 +98,9 @@ true_between low high n a b = and_from (leb low n) (leb n high) (le-leb low n a)
 
 -- a pose list after its count
 abbrev PosesFit : List Counts → Type 0
-PosesFit l = (1 ≤ length l) × (length l ≤ 16) × All PoseFits l
+PosesFit l = (1 ≤ length l) × (length l ≤ 16) × AllByRecursion PoseFits l
 
-list_lawful : (n : ℕ) → Lawful (via (λ c. poses_of_bytes c.1) (chunk (n * 4))) (λ l. record { bytes = flat_map pose_bytes l; asks = has (n * 4) ∷ [] } ∷ []) (λ l. (length l ≡ n) × All PoseFits l)
+list_lawful : (n : ℕ) → Lawful (via (λ c. poses_of_bytes c.1) (chunk (n * 4))) (λ l. record { bytes = flat_map pose_bytes l; asks = has (n * 4) ∷ [] } ∷ []) (λ l. (length l ≡ n) × AllByRecursion PoseFits l)
 list_lawful n = lawful_again _ _ _ (λ s p. sym (via_whole (λ c. poses_of_bytes c.1) (n * 4) (λ t q. (q, take (n * 4) (drop q t))) s p)) (λ a w. refl) (λ a w. w) (λ a w. w) (tested_lawful Whole (list_tested n))
 
 poses_lawful : Lawful poses (λ l. a_count (length l) ∷ (a_part (flat_map pose_bytes l) ∷ [])) PosesFit
@@ -112,9 +112,9 @@ poses_lawful = lawful_again poses (λ l. a_count (length l) ∷ (a_part (flat_ma
 
 -- a note after its length
 abbrev NoteFits : List ℕ → Type 0
-NoteFits l = (length l < 256) × All (λ b. b < 256) l
+NoteFits l = (length l < 256) × AllByRecursion (λ b. b < 256) l
 
-part_lawful : (n : ℕ) → Lawful (via (λ c. c.1) (chunk n)) (λ l. record { bytes = l; asks = has n ∷ [] } ∷ []) (λ l. (length l ≡ n) × All (λ b. b < 256) l)
+part_lawful : (n : ℕ) → Lawful (via (λ c. c.1) (chunk n)) (λ l. record { bytes = l; asks = has n ∷ [] } ∷ []) (λ l. (length l ≡ n) × AllByRecursion (λ b. b < 256) l)
 part_lawful n = lawful_again _ _ _ (λ s p. sym (via_whole (λ c. c.1) n (λ t q. (q, take n (drop q t))) s p)) (λ a w. refl) (λ a w. w) (λ a w. w) (tested_lawful Whole (part_tested n))
 
 note_lawful : Lawful note (λ l. a_length (length l) ∷ (a_part l ∷ [])) NoteFits

@@ -1,6 +1,6 @@
 -- Where fields stop is the first no in file order, and the other way round.
 use Rattle.std.proofs.Common.{◌≡◌, ℕ, ◌+◌, true, false, cond, ◌⊎◌, List, [], ◌∷◌, ◌++◌, map, length, take, drop, Some, None, sym, refl, ap, ◌∙◌, subst, inl, inr, ⊎_elim, append_assoc, add-zero, arith}
-use Rattle.std.specs.List.{AllByRecursion as All}
+use Rattle.std.specs.List.{AllByRecursion}
 use Rattle.std.proofs.lemmas.List.{take_at, take-append-drop, append-nil, length-append}
 use Rattle.job.specs.declared.faults.Question.{Question}
 use Rattle.job.specs.Layout.{Ask, Piece, written}
@@ -32,7 +32,7 @@ ask_back (a ∷ l) s p n k m e =
     [ true ↦ λ h. ask_back l s p n k m h | false ↦ λ h. (let g : ◌≡◌ {A = Question × ℕ} (a.question, p) (n, k) = cc in inl (ap (λ c. Some c.0) g, sym (ap (λ c. c.1) g))) ] e
 
 -- a field that gets a no after fields that get a yes
-first_of : (before : List Piece) (c : Piece) (after : List Piece) (s : List ℕ) (p : ℕ) (rest : List ℕ) (n : Question) (k : ℕ) → All Answered before
+first_of : (before : List Piece) (c : Piece) (after : List Piece) (s : List ℕ) (p : ℕ) (rest : List ℕ) (n : Question) (k : ℕ) → AllByRecursion Answered before
     → drop p s ≡ written before ++ rest → k ≡ p + length (written before) → field_no c.asks rest ≡ Some n → first_no (questions s p (before ++ c ∷ after)) ≡ Some (n, k)
 first_of [] c after s p rest n k w b e h =
     ask_no c.asks s p n (questions s (p + length c.bytes) after) (ap (field_no c.asks) b ∙ h) ∙ ap (λ i. Some (n, i)) (sym (e ∙ add-zero p))
@@ -68,7 +68,7 @@ culprit (c ∷ l) s p n k e = ⊎_elim
     (ask_back c.asks s p n k (questions s (p + length c.bytes) l) e)
 
 module _ {A : Type 0} {w : A → List Piece} {fit : A → Type 0} where
-  pub no_from_stops : (s : List ℕ) (n : Question) (k : ℕ) (a : A) → fit a → (t : Stops (w a) s 0 n k) → All Answered t.before → FirstNo w fit s n k
+  pub no_from_stops : (s : List ℕ) (n : Question) (k : ℕ) (a : A) → fit a → (t : Stops (w a) s 0 n k) → AllByRecursion Answered t.before → FirstNo w fit s n k
   no_from_stops s n k a f t y =
       let l = written t.before in
       let m : length l ≡ k = omega (arith, t.place) in
@@ -97,14 +97,14 @@ module _ {A : Type 0} {w : A → List Piece} {fit : A → Type 0} where
       }
 
 -- fields that get a yes, and the first of them
-pub all_left : (l m : List Piece) → All Answered (l ++ m) → All Answered l
+pub all_left : (l m : List Piece) → AllByRecursion Answered (l ++ m) → AllByRecursion Answered l
 all_left [] m y = tt
 all_left (c ∷ l) m y = (y.0, all_left l m y.1)
 
-pub all_but_last : (l : List Piece) (e : Piece) (before : List Piece) (c : Piece) (after : List Piece) → All Answered l → l ++ e ∷ [] ≡ before ++ c ∷ after → All Answered before
+pub all_but_last : (l : List Piece) (e : Piece) (before : List Piece) (c : Piece) (after : List Piece) → AllByRecursion Answered l → l ++ e ∷ [] ≡ before ++ c ∷ after → AllByRecursion Answered before
 all_but_last l e before c after y o = ⊎_elim
-    (λ t. all_left before (c ∷ t.0) (subst (All Answered) t.1 y))
-    (λ t. subst (All Answered) (sym (t.1 ∙ ap (λ m. l ++ m) (last_none t.0 t.2) ∙ append-nil l)) y)
+    (λ t. all_left before (c ∷ t.0) (subst (AllByRecursion Answered) t.1 y))
+    (λ t. subst (AllByRecursion Answered) (sym (t.1 ∙ ap (λ m. l ++ m) (last_none t.0 t.2) ∙ append-nil l)) y)
     (split l (e ∷ []) before c after o)
   where
     last_none : (m : List Piece) → e ∷ [] ≡ m ++ c ∷ after → m ≡ []

@@ -1,7 +1,7 @@
 -- The header and a single record, in the words of the layout.
 use Rattle.std.proofs.Common.{◌≡◌, ℕ, ◌+◌, ◌<◌, ◌≤◌, Bool, true, false, cond, ltb, leb, List, ◌∷◌, length, take, drop, Some, None, Ok, Err, Option, Result, sym, refl, ap, ◌∙◌, subst, ⊎_elim, arith}
 use Rattle.std.specs.Option.{option_map}
-use Rattle.std.specs.List.{AllByRecursion as All}
+use Rattle.std.specs.List.{AllByRecursion}
 use Rattle.std.proofs.lemmas.List.{take_at, drop_all}
 use Rattle.std.proofs.lemmas.Bool.{ltb-true, ltb-false, lt-leb, cond-false, cases_lt}
 use Rattle.job.specs.declared.faults.Question.{Question}
@@ -35,7 +35,7 @@ module _ {A : Type 0} {r : Read A} {w : A → List Piece} {fit : A → Type 0} (
       let b = t.2 in
       let m = length (written b.before) in
       let c : Stops (w t.0) (drop p s) 0 n m = record { before = b.before; piece = b.piece; after = b.after; order = b.order; rest = b.rest; bytes = b.bytes; place = omega arith; no = b.no } in
-      (m, b.place, no_from_stops (drop p s) n m t.0 t.1 c (all_left b.before (b.piece ∷ b.after) (subst (All _) b.order (x.clear t.0 t.1))))
+      (m, b.place, no_from_stops (drop p s) n m t.0 t.1 c (all_left b.before (b.piece ∷ b.after) (subst (AllByRecursion _) b.order (x.clear t.0 t.1))))
 
 pub open_law : (s : List ℕ) → Bytes s → (r : Result (Header × Records) Fault) → opened r ≡ heading s 0 → Opened s r
 open_law s bs (Ok t) e =

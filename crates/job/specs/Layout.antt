@@ -1,7 +1,7 @@
 -- The layout of a job file: the fields of a job in file order, their bytes, and what each asks of the file.
 use Rattle.std.specs.Prelude.{ℕ, ◌+◌, ◌<◌, ◌≤◌, Bool, ◌&&◌, List, [], ◌∷◌, ◌++◌, length, ℤ, is_some, IfSome, Some, None, Option, FitsSigned, ◌==◌, nat_le, slice_index}
 use Rattle.std.specs.Int.{w16}
-use Rattle.std.specs.List.{flat_map, AllByRecursion as All}
+use Rattle.std.specs.List.{flat_map, AllByRecursion}
 use Rattle.job.specs.declared.faults.Question.{Question}
 use Rattle.job.specs.declared.faults.Question.TheVariants.{Letters, Map, Whole, Range, End}
 use Rattle.job.specs.Bytes.{byte_at, word_at, word_bytes, signed_bytes, pose_bytes, between, lacks, bit}
@@ -106,8 +106,8 @@ encode j = written (job_pieces j)
 pub record EntryFits (e : Entry) : Type 0 where
   pub x : IfSome e.x (FitsSigned w16)
   pub y : IfSome e.y (FitsSigned w16)
-  pub poses : IfSome e.poses (λ l. (1 ≤ length l) × (length l ≤ 16) × All (λ c. FitsSigned w16 c.shoulder × FitsSigned w16 c.elbow) l)
-  pub note : IfSome e.note (λ l. (length l < 256) × All (λ b. b < 256) l)
+  pub poses : IfSome e.poses (λ l. (1 ≤ length l) × (length l ≤ 16) × AllByRecursion (λ c. FitsSigned w16 c.shoulder × FitsSigned w16 c.elbow) l)
+  pub note : IfSome e.note (λ l. (length l < 256) × AllByRecursion (λ b. b < 256) l)
 
 -- The values that a header can hold.
 pub record HeadFits (h : Head) : Type 0 where
@@ -119,4 +119,4 @@ pub record HeadFits (h : Head) : Type 0 where
 pub record Fits (j : Contents) : Type 0 where
   pub head : HeadFits j.head
   pub few : length j.records ≤ 128
-  pub records : All EntryFits j.records
+  pub records : AllByRecursion EntryFits j.records

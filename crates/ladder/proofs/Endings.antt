@@ -1,7 +1,7 @@
 -- The tracks that end at one pose. Assumes nothing.
 use Rattle.std.proofs.Common.{◌≡◌, ℕ, ◌<◌, ◌≤◌, true, eqb, ltb, ◌↔◌, List, [], ◌∷◌, length, get_or, Equal, sym, refl, ap, ◌∙◌, subst, inl, inr, arith}
 use Rattle.std.specs.Ordering.{is_le}
-use Rattle.std.specs.List.{AllByRecursion as All}
+use Rattle.std.specs.List.{AllByRecursion}
 use Rattle.std.proofs.lemmas.Bool.{false≢true, and_parts, and_from, ltb-true, lt-ltb, eqb-true, eq-eqb}
 use Rattle.ladder.specs.declared.poses.Limits.{Limits}
 use Rattle.ladder.specs.Moves.{turns}
@@ -61,7 +61,7 @@ module _ {V P : Type 0} (c : Rules V P) (laws : Lawful c) (l : Limits) (b : Boun
     pub list : ListOf c l rs (tracks_of c l rs)
     list = tracks_of_lists c laws l b rs n128
 
-    pub list_sound : All (Sound l rs) (tracks_of c l rs)
+    pub list_sound : AllByRecursion (Sound l rs) (tracks_of c l rs)
     list_sound = all_from_in (Sound l rs) (tracks_of c l rs) (λ t i. sound l rs t (all_in (Admissible l rs) (tracks_of c l rs) t list.only i))
 
     -- every admissible track stands among those that end at its last pose
@@ -77,7 +77,7 @@ module _ {V P : Type 0} (c : Rules V P) (laws : Lawful c) (l : Limits) (b : Boun
     pub ending_listed : (v : ℕ) (t : Track) → In t (ending c l rs v) → In t (tracks_of c l rs)
     ending_listed v t i = (in_kept_from (λ u. eqb (get_or u 0 0) v) (tracks_of c l rs) t i).0
 
-    pub ending_sound : (v : ℕ) → All (Sound l rs) (ending c l rs v)
+    pub ending_sound : (v : ℕ) → AllByRecursion (Sound l rs) (ending c l rs v)
     ending_sound v = all_from_in (Sound l rs) (ending c l rs v) (λ t i. sound l rs t (ending_in v t i).0)
 
     pub ending_ascends : (v : ℕ) → Ascending (peel c rs) (ending c l rs v)

@@ -1,6 +1,6 @@
 -- Costs in track order. Assumes nothing.
 use Rattle.std.proofs.Common.{◌≡◌, ℕ, zero, suc, ◌<◌, true, ltb, List, [], ◌∷◌, ◌++◌, reverse, length, get_or, fold, sym, refl, ap, ◌∙◌, subst, arith}
-use Rattle.std.specs.List.{AllByRecursion as All}
+use Rattle.std.specs.List.{AllByRecursion}
 use Rattle.std.proofs.lemmas.List.{reverse-append, append_assoc, length-reverse}
 use Rattle.std.proofs.ByRecursion.{All-push}
 use Rattle.std.proofs.lemmas.Bool.{false≢true, and_parts, and_from, ltb-true, lt-ltb}
@@ -58,19 +58,19 @@ module _ {V P : Type 0} (c : Rules V P) where
 abbrev Fits : Limits → Turns → Type 0
 Fits l m = within l m ≡ true
 
-all_reverse : (l : Limits) (ms : List Turns) → all_within l ms ≡ true → All (Fits l) (reverse ms)
+all_reverse : (l : Limits) (ms : List Turns) → all_within l ms ≡ true → AllByRecursion (Fits l) (reverse ms)
 all_reverse l [] h = tt
 all_reverse l (m ∷ ms) h =
-    subst (All (Fits l)) (sym (reverse_cons m ms)) (All-push (Fits l) (reverse ms) m (all_reverse l ms (and_parts _ _ h).1) (and_parts _ _ h).0)
+    subst (AllByRecursion (Fits l)) (sym (reverse_cons m ms)) (All-push (Fits l) (reverse ms) m (all_reverse l ms (and_parts _ _ h).1) (and_parts _ _ h).0)
 
-all_pushed : (l : Limits) (ms : List Turns) (m : Turns) → All (Fits l) (ms ++ m ∷ []) → All (Fits l) ms × Fits l m
+all_pushed : (l : Limits) (ms : List Turns) (m : Turns) → AllByRecursion (Fits l) (ms ++ m ∷ []) → AllByRecursion (Fits l) ms × Fits l m
 all_pushed l [] m h = (tt, h.0)
 all_pushed l (n ∷ ms) m h = let r = all_pushed l ms m h.1 in ((h.0, r.0), r.1)
 
-reverse_all : (l : Limits) (ms : List Turns) → All (Fits l) (reverse ms) → all_within l ms ≡ true
+reverse_all : (l : Limits) (ms : List Turns) → AllByRecursion (Fits l) (reverse ms) → all_within l ms ≡ true
 reverse_all l [] h = refl
 reverse_all l (m ∷ ms) h =
-    let r = all_pushed l (reverse ms) m (subst (All (Fits l)) (reverse_cons m ms) h) in
+    let r = all_pushed l (reverse ms) m (subst (AllByRecursion (Fits l)) (reverse_cons m ms) h) in
     and_from _ _ r.1 (reverse_all l ms r.0)
 
 -- ---- pose numbers
@@ -98,13 +98,13 @@ picks_in_range (r ∷ rs) (j ∷ t) h =
 pub admissible_is_moves : AdmissibleIsMoves
 admissible_is_moves l rs t = (forth, back)
   where
-    forth : Admissible l rs t → (0 < length rs) × Picks rs t × All (Fits l) (onward (steps rs t))
+    forth : Admissible l rs t → (0 < length rs) × Picks rs t × AllByRecursion (Fits l) (onward (steps rs t))
     forth h =
-        (h.some_rung, in_range_picks rs t h.numbered, subst (All (Fits l)) (sym (onward_reverse (steps_back rs t))) (all_reverse l (moves (steps_back rs t)) h.moved))
+        (h.some_rung, in_range_picks rs t h.numbered, subst (AllByRecursion (Fits l)) (sym (onward_reverse (steps_back rs t))) (all_reverse l (moves (steps_back rs t)) h.moved))
 
-    back : (0 < length rs) × Picks rs t × All (Fits l) (onward (steps rs t)) → Admissible l rs t
+    back : (0 < length rs) × Picks rs t × AllByRecursion (Fits l) (onward (steps rs t)) → Admissible l rs t
     back h = record {
       some_rung = h.0;
       numbered = picks_in_range rs t h.1;
-      moved = reverse_all l (moves (steps_back rs t)) (subst (All (Fits l)) (onward_reverse (steps_back rs t)) h.2);
+      moved = reverse_all l (moves (steps_back rs t)) (subst (AllByRecursion (Fits l)) (onward_reverse (steps_back rs t)) h.2);
     }

@@ -1,7 +1,7 @@
 -- A list in ascending order is the merge of rows that rise and that share its elements out among them. Assumes nothing.
 use Rattle.std.proofs.Common.{◌≡◌, ℕ, suc, ◌<◌, ◌≤◌, true, cond, ◌⊎◌, ◌↔◌, List, length, get_or, Ordering, Less, Equal, Greater, sym, ap, ◌∙◌, subst, inl, inr, arith}
 use Rattle.std.specs.Ordering.{is_le}
-use Rattle.std.specs.List.{AllByRecursion as All}
+use Rattle.std.specs.List.{AllByRecursion}
 use Rattle.std.proofs.lemmas.Bool.{false≢true, cases_eq, cases_lt, eq-eqb, ne_eqb}
 use Rattle.ladder.specs.Listed.{In, Ascending}
 use Rattle.ladder.specs.Ranking.{bumped}
@@ -25,7 +25,7 @@ not_greater : (o : Ordering) → is_le o ≡ true → o ≡ Greater → ⊥
 not_greater o h e = false≢true (sym (ap is_le e) ∙ h)
 
 -- row u, for a u that is fit, has long u elements, of which that at place i is el u i; together the rows have the elements of xs, each once
-module _ {X : Type 0} {A : X → Type 0} {cmp : X → X → Ordering} (R : Ranks A cmp) (same : (x y : X) → A x → A y → cmp x y ≡ Equal → x ≡ y) (xs : List X) (d : X) (a : All A xs) (s : Ascending cmp xs) (Fit : ℕ → Type 0) (long : ℕ → ℕ) (el : ℕ → ℕ → X) (there : (u i : ℕ) → Fit u → i < long u → In (el u i) xs) (split : (j : ℕ) → j < length xs → (u : ℕ) × Fit u × ((i : ℕ) × (i < long u) × (get_or xs j d ≡ el u i))) (rising : (u i j : ℕ) → Fit u → i ≤ j → j < long u → is_le (cmp (el u i) (el u j)) ≡ true) (one : (u w i k : ℕ) → Fit u → Fit w → i < long u → k < long w → el u i ≡ el w k → (u ≡ w) × (i ≡ k)) where
+module _ {X : Type 0} {A : X → Type 0} {cmp : X → X → Ordering} (R : Ranks A cmp) (same : (x y : X) → A x → A y → cmp x y ≡ Equal → x ≡ y) (xs : List X) (d : X) (a : AllByRecursion A xs) (s : Ascending cmp xs) (Fit : ℕ → Type 0) (long : ℕ → ℕ) (el : ℕ → ℕ → X) (there : (u i : ℕ) → Fit u → i < long u → In (el u i) xs) (split : (j : ℕ) → j < length xs → (u : ℕ) × Fit u × ((i : ℕ) × (i < long u) × (get_or xs j d ≡ el u i))) (rising : (u i j : ℕ) → Fit u → i ≤ j → j < long u → is_le (cmp (el u i) (el u j)) ≡ true) (one : (u w i k : ℕ) → Fit u → Fit w → i < long u → k < long w → el u i ≡ el w k → (u ≡ w) × (i ≡ k)) where
   -- the first n of xs are the first `used u` of each row u
   abbrev pub Used : ℕ → (ℕ → ℕ) → Type 0
   Used n used =

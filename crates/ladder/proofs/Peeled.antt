@@ -1,7 +1,7 @@
 -- The peel order is an order on a ladder's tracks, and the computed list is the list of the ladder. Assumes nothing.
 use Rattle.std.proofs.Common.{◌≡◌, ℕ, zero, suc, ◌<◌, ◌≤◌, true, ◌⊎◌, List, [], ◌∷◌, ◌++◌, map, length, get_or, drop, Ordering, Less, Equal, sym, refl, ap, ◌∙◌, subst, inl, inr, arith}
 use Rattle.std.specs.Ordering.{is_le, ordering_then, nat_cmp}
-use Rattle.std.specs.List.{AllByRecursion as All}
+use Rattle.std.specs.List.{AllByRecursion}
 use Rattle.std.proofs.lemmas.Bool.{false≢true, and_parts, and_from, leb-true, ltb-true, lt-ltb, cases_eq}
 use Rattle.ladder.specs.declared.poses.Step.{Step}
 use Rattle.ladder.specs.declared.poses.Turns.{Turns}
@@ -32,7 +32,7 @@ within_short l m b h =
     let y : m.elbow ≤ l.elbow = leb-true _ _ p.1 in
     (omega arith, omega arith)
 
-all_short : (l : Limits) (ms : List Turns) → Bounded l → all_within l ms ≡ true → All Short ms
+all_short : (l : Limits) (ms : List Turns) → Bounded l → all_within l ms ≡ true → AllByRecursion Short ms
 all_short l [] b h = tt
 all_short l (m ∷ ms) b h = (within_short l m b (and_parts _ _ h).0, all_short l ms b (and_parts _ _ h).1)
 
@@ -175,7 +175,7 @@ admissible_apart l (r ∷ rs) =
 pub sound : (l : Limits) (rs : Ladder) (t : Track) → Admissible l rs t → Sound l rs t
 sound l rs t h = (h.numbered, h.moved)
 
-sound_all : (l : Limits) (rs : Ladder) (ts : List Track) → All (Admissible l rs) ts → All (Sound l rs) ts
+sound_all : (l : Limits) (rs : Ladder) (ts : List Track) → AllByRecursion (Admissible l rs) ts → AllByRecursion (Sound l rs) ts
 sound_all l rs [] h = tt
 sound_all l rs (t ∷ ts) h = (sound l rs t h.0, sound_all l rs ts h.1)
 
@@ -186,13 +186,13 @@ module _ {V P : Type 0} (c : Rules V P) (laws : Lawful c) (l : Limits) (b : Boun
   same : (t u : Track) → Sound l rs t → Sound l rs u → peel c rs t u ≡ Equal → t ≡ u
   same = peel_same c laws l b rs
 
-  all_admissible : All (Admissible l rs) (admissible_tracks l rs)
+  all_admissible : AllByRecursion (Admissible l rs) (admissible_tracks l rs)
   all_admissible = all_from_in (Admissible l rs) (admissible_tracks l rs) (in_admissible l rs)
 
   ascends : Ascending (peel c rs) (tracks_of c l rs)
   ascends = ascending_sorted R same (admissible_tracks l rs) (sound_all l rs (admissible_tracks l rs) all_admissible) (admissible_apart l rs)
 
-  only_admissible : All (Admissible l rs) (tracks_of c l rs)
+  only_admissible : AllByRecursion (Admissible l rs) (tracks_of c l rs)
   only_admissible = all_sorted (peel c rs) (Admissible l rs) (admissible_tracks l rs) all_admissible
 
   -- the computed list is the list of the ladder

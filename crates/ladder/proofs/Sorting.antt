@@ -1,7 +1,7 @@
 -- Lists in ascending order: sorting gives one, and two with the same elements are one list. Assumes nothing.
 use Rattle.std.proofs.Common.{◌≡◌, ℕ, zero, suc, ◌<◌, ◌≤◌, Bool, true, false, cond, ◌⊎◌, List, [], ◌∷◌, ◌++◌, map, length, get_or, filter, Ordering, Less, Equal, Greater, sym, refl, ap, ◌∙◌, subst, inl, inr, arith}
 use Rattle.std.specs.Ordering.{is_lt, nat_cmp}
-use Rattle.std.specs.List.{AllByRecursion as All}
+use Rattle.std.specs.List.{AllByRecursion}
 use Rattle.std.proofs.ByRecursion.{all_kept_by, All-get_or}
 use Rattle.std.proofs.lemmas.Bool.{cases_order}
 use Rattle.ladder.specs.Listed.{In, Ascending, placed_in, sorted}
@@ -13,12 +13,12 @@ abbrev pub Apart : {X : Type 0} → List X → Type 0
 Apart [] = Unit {0}
 Apart (x ∷ xs) = (In x xs → ⊥) × Apart xs
 
-pub all_in : {X : Type 0} (P : X → Type 0) (xs : List X) (x : X) → All P xs → In x xs → P x
+pub all_in : {X : Type 0} (P : X → Type 0) (xs : List X) (x : X) → AllByRecursion P xs → In x xs → P x
 all_in P [] x h i = absurd i
 all_in P (y ∷ ys) x h (inl e) = subst P e h.0
 all_in P (y ∷ ys) x h (inr i) = all_in P ys x h.1 i
 
-pub all_from_in : {X : Type 0} (P : X → Type 0) (xs : List X) → ((x : X) → In x xs → P x) → All P xs
+pub all_from_in : {X : Type 0} (P : X → Type 0) (xs : List X) → ((x : X) → In x xs → P x) → AllByRecursion P xs
 all_from_in P [] h = tt
 all_from_in P (x ∷ xs) h = (h x (inl refl), all_from_in P xs (λ y i. h y (inr i)))
 
@@ -98,11 +98,11 @@ apart_append (x ∷ xs) ys a b h = (out, apart_append xs ys a.1 b (λ z i j. h z
     out i = cases (in_append_cases xs ys x i)
 
 module _ {X : Type 0} (cmp : X → X → Ordering) where
-  pub all_placed : (P : X → Type 0) (x : X) (ys : List X) → P x → All P ys → All P (placed_in cmp x ys)
+  pub all_placed : (P : X → Type 0) (x : X) (ys : List X) → P x → AllByRecursion P ys → AllByRecursion P (placed_in cmp x ys)
   all_placed P x [] h a = (h, tt)
   all_placed P x (y ∷ ys) h a = step (is_lt (cmp x y)) (all_placed P x ys h a.1)
     where
-      step : (b : Bool) → All P (placed_in cmp x ys) → All P (cond b (x ∷ y ∷ ys) (y ∷ placed_in cmp x ys))
+      step : (b : Bool) → AllByRecursion P (placed_in cmp x ys) → AllByRecursion P (cond b (x ∷ y ∷ ys) (y ∷ placed_in cmp x ys))
       step true r = (h, a)
       step false r = (a.0, r)
 
@@ -121,7 +121,7 @@ module _ {X : Type 0} (cmp : X → X → Ordering) where
   in_sorted z (x ∷ xs) (inl e) = in_placed z x (sorted cmp xs) (inl e)
   in_sorted z (x ∷ xs) (inr i) = in_placed z x (sorted cmp xs) (inr (in_sorted z xs i))
 
-  pub all_sorted : (P : X → Type 0) (xs : List X) → All P xs → All P (sorted cmp xs)
+  pub all_sorted : (P : X → Type 0) (xs : List X) → AllByRecursion P xs → AllByRecursion P (sorted cmp xs)
   all_sorted P [] a = tt
   all_sorted P (x ∷ xs) a = all_placed P x (sorted cmp xs) a.0 (all_sorted P xs a.1)
 
@@ -137,11 +137,11 @@ module _ {X : Type 0} (cmp : X → X → Ordering) where
   ascending_less (x ∷ xs) (suc i) (suc j) d s h k = ascending_less xs i j d s.1 (omega arith) (omega arith)
 
 module _ {X : Type 0} {A : X → Type 0} {cmp : X → X → Ordering} (R : Ranks A cmp) (same : (x y : X) → A x → A y → cmp x y ≡ Equal → x ≡ y) where
-  above_all : (x y : X) (ys : List X) → A x → A y → All A ys → cmp x y ≡ Less → All (λ z. cmp y z ≡ Less) ys → All (λ z. cmp x z ≡ Less) ys
+  above_all : (x y : X) (ys : List X) → A x → A y → AllByRecursion A ys → cmp x y ≡ Less → AllByRecursion (λ z. cmp y z ≡ Less) ys → AllByRecursion (λ z. cmp x z ≡ Less) ys
   above_all x y [] a b h p q = tt
   above_all x y (z ∷ ys) a b h p q = (R.chain x y z a b h.0 p q.0, above_all x y ys a b h.1 p q.1)
 
-  pub ascending_placed : (x : X) (ys : List X) → A x → All A ys → (In x ys → ⊥) → Ascending cmp ys → Ascending cmp (placed_in cmp x ys)
+  pub ascending_placed : (x : X) (ys : List X) → A x → AllByRecursion A ys → (In x ys → ⊥) → Ascending cmp ys → Ascending cmp (placed_in cmp x ys)
   ascending_placed x [] a h n s = (tt, tt)
   ascending_placed x (y ∷ ys) a h n s = step (cmp x y) refl (ascending_placed x ys a h.1 (λ i. n (inr i)) s.1)
     where
@@ -151,22 +151,22 @@ module _ {X : Type 0} {A : X → Type 0} {cmp : X → X → Ordering} (R : Ranks
       step Greater e r =
           (all_placed cmp (λ z. cmp y z ≡ Less) x ys (back R x y a h.0 e) s.0, r)
 
-  pub ascending_sorted : (xs : List X) → All A xs → Apart xs → Ascending cmp (sorted cmp xs)
+  pub ascending_sorted : (xs : List X) → AllByRecursion A xs → Apart xs → Ascending cmp (sorted cmp xs)
   ascending_sorted [] h a = tt
   ascending_sorted (x ∷ xs) h a =
       ascending_placed x (sorted cmp xs) h.0 (all_sorted cmp A xs h.1) (λ i. a.0 (sorted_in cmp x xs i)) (ascending_sorted xs h.1 a.1)
 
   -- no element of an ascending list is below itself
-  not_later : (x y : X) (ys : List X) → A x → All (λ z. cmp x z ≡ Less) ys → In y ys → x ≡ y → ⊥
+  not_later : (x y : X) (ys : List X) → A x → AllByRecursion (λ z. cmp x z ≡ Less) ys → In y ys → x ≡ y → ⊥
   not_later x y ys a h i e = not_less_equal (subst (λ w. cmp x w ≡ Less) (sym e) (all_in (λ z. cmp x z ≡ Less) ys y h i)) (self R x a)
 
-  heads : (x y : X) (xs ys : List X) → All A (x ∷ xs) → All A (y ∷ ys) → Ascending cmp (x ∷ xs) → Ascending cmp (y ∷ ys) → In x (y ∷ ys) → In y (x ∷ xs) → x ≡ y
+  heads : (x y : X) (xs ys : List X) → AllByRecursion A (x ∷ xs) → AllByRecursion A (y ∷ ys) → Ascending cmp (x ∷ xs) → Ascending cmp (y ∷ ys) → In x (y ∷ ys) → In y (x ∷ xs) → x ≡ y
   heads x y xs ys a b s t (inl e) j = sym e
   heads x y xs ys a b s t (inr i) (inl e) = e
   heads x y xs ys a b s t (inr i) (inr j) =
       absurd (not_less_greater (all_in (λ z. cmp x z ≡ Less) xs y s.0 j) (forth R y x b.0 a.0 (all_in (λ z. cmp y z ≡ Less) ys x t.0 i)))
 
-  pub same_elements : (xs ys : List X) → All A xs → All A ys → Ascending cmp xs → Ascending cmp ys → ((z : X) → In z xs → In z ys) → ((z : X) → In z ys → In z xs) → xs ≡ ys
+  pub same_elements : (xs ys : List X) → AllByRecursion A xs → AllByRecursion A ys → Ascending cmp xs → Ascending cmp ys → ((z : X) → In z xs → In z ys) → ((z : X) → In z ys → In z xs) → xs ≡ ys
   same_elements [] [] a b s t f g = refl
   same_elements [] (y ∷ ys) a b s t f g = absurd (g y (inl refl))
   same_elements (x ∷ xs) [] a b s t f g = absurd (f x (inl refl))
@@ -199,7 +199,7 @@ in_place [] x d i = absurd i
 in_place (y ∷ xs) x d (inl e) = (0, omega arith, e)
 in_place (y ∷ xs) x d (inr i) = let r = in_place xs x d i in (suc r.0, omega (arith, r.1), r.2)
 
-module _ {X : Type 0} {A : X → Type 0} {cmp : X → X → Ordering} (R : Ranks A cmp) (same : (x y : X) → A x → A y → cmp x y ≡ Equal → x ≡ y) (xs : List X) (d : X) (a : All A xs) (s : Ascending cmp xs) where
+module _ {X : Type 0} {A : X → Type 0} {cmp : X → X → Ordering} (R : Ranks A cmp) (same : (x y : X) → A x → A y → cmp x y ≡ Equal → x ≡ y) (xs : List X) (d : X) (a : AllByRecursion A xs) (s : Ascending cmp xs) where
   -- elements compare as their places do
   pub by_place : (i j : ℕ) → i < length xs → j < length xs → cmp (get_or xs i d) (get_or xs j d) ≡ nat_cmp i j
   by_place i j h k = step (cases_order i j)

@@ -4,7 +4,7 @@ use Rattle.std.specs.declared.cmp.Ordering.TheVariants.{Less, Equal, Greater}
 use Rattle.std.specs.declared.cmp.Ordering.{Ordering}
 use Rattle.std.proofs.Common.{◌∙◌, ap, subst, arith}
 use Rattle.std.specs.Ordering.{is_le, ordering_then}
-use Rattle.std.specs.List.{AllByRecursion as All}
+use Rattle.std.specs.List.{AllByRecursion}
 use Rattle.std.proofs.lemmas.Bool.{false≢true}
 use Rattle.ladder.specs.declared.poses.Turns.{Turns}
 use Rattle.ladder.specs.declared.costs.Travel.{Travel}
@@ -34,7 +34,7 @@ travel_lawful = record {
   monotone = λ a b m _ _ _ h. le_rank (travel.join a (travel.price m)).total (travel.join b (travel.price m)).total (omega (arith, rank_le a.total b.total h));
 }
 
-joined_small : (ms : List Turns) → All Short ms → (joined travel ms).total ≤ 131070 * length ms
+joined_small : (ms : List Turns) → AllByRecursion Short ms → (joined travel ms).total ≤ 131070 * length ms
 joined_small [] h = omega arith
 joined_small (m ∷ ms) h = omega (arith, joined_small ms h.1, h.0.0, h.0.1)
 

@@ -3,7 +3,7 @@ use Rattle.std.specs.Prelude.{◌≡◌, ℕ, zero, suc, ◌<◌, ◌≤◌, con
 use Rattle.std.specs.declared.cmp.Ordering.TheVariants.{Less, Equal}
 use Rattle.std.specs.declared.cmp.Ordering.{Ordering}
 use Rattle.std.specs.Ordering.{is_lt, ordering_then, nat_cmp}
-use Rattle.std.specs.List.{AllByRecursion as All}
+use Rattle.std.specs.List.{AllByRecursion}
 use Rattle.ladder.specs.declared.poses.Limits.{Limits}
 use Rattle.ladder.specs.Rules.{Rules, Orders}
 use Rattle.ladder.specs.Tracks.{Ladder, Track, Bounded, Admissible, all_within, moves, steps_back, cost}
@@ -24,12 +24,12 @@ In x (y ∷ ys) = (y ≡ x) ⊎ In x ys
 -- each element is below all that come after it
 abbrev pub Ascending : {X : Type 0} → (X → X → Ordering) → List X → Type 0
 Ascending cmp [] = Unit {0}
-Ascending cmp (x ∷ xs) = All (λ y. cmp x y ≡ Less) xs × Ascending cmp xs
+Ascending cmp (x ∷ xs) = AllByRecursion (λ y. cmp x y ≡ Less) xs × Ascending cmp xs
 
 -- the list of a ladder: every admissible track and nothing else, each once, strictly ascending in peel order
 pub record ListOf {V P : Type 0} (c : Rules V P) (l : Limits) (rs : Ladder) (ts : List Track) : Type 0 where
   pub every : (t : Track) → Admissible l rs t → In t ts
-  pub only : All (Admissible l rs) ts
+  pub only : AllByRecursion (Admissible l rs) ts
   pub once : (i j : ℕ) → i < length ts → j < length ts → slice_index_or ts i [] ≡ slice_index_or ts j [] → i ≡ j
   pub ordered : Ascending (peel c rs) ts
 

@@ -1,6 +1,6 @@
 -- Tracks read in track order, from the first waypoint to the last. Assumes nothing.
 use Rattle.std.specs.Prelude.{◌≡◌, ℕ, ◌<◌, true, ◌↔◌, List, [], ◌∷◌, length, fold, slice_index, slice_index_or}
-use Rattle.std.specs.List.{AllByRecursion as All}
+use Rattle.std.specs.List.{AllByRecursion}
 use Rattle.ladder.specs.declared.poses.Step.{Step}
 use Rattle.ladder.specs.declared.poses.Turns.{Turns}
 use Rattle.ladder.specs.declared.poses.Limits.{Limits}
@@ -27,4 +27,4 @@ pub record Picks (rs : Ladder) (t : Track) : Type 0 where
 -- a track is admissible exactly when there is a rung, the track picks one pose of each, and all its moves in track order are within the limits
 abbrev pub AdmissibleIsMoves : Type 0
 AdmissibleIsMoves =
-    (l : Limits) (rs : Ladder) (t : Track) → Admissible l rs t ↔ ((0 < length rs) × Picks rs t × All (λ m. within l m ≡ true) (onward (steps rs t)))
+    (l : Limits) (rs : Ladder) (t : Track) → Admissible l rs t ↔ ((0 < length rs) × Picks rs t × AllByRecursion (λ m. within l m ≡ true) (onward (steps rs t)))

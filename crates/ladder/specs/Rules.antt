@@ -3,7 +3,7 @@ use Rattle.std.specs.Prelude.{◌≡◌, ℕ, ◌≤◌, true, ◌||◌, ◌↔�
 use Rattle.std.specs.declared.cmp.Ordering.TheVariants.{Less, Equal, Greater}
 use Rattle.std.specs.declared.cmp.Ordering.{Ordering}
 use Rattle.std.specs.Ordering.{is_le}
-use Rattle.std.specs.List.{AllByRecursion as All}
+use Rattle.std.specs.List.{AllByRecursion}
 use Rattle.ladder.specs.declared.poses.Turns.{Turns}
 
 -- what a cost means, over its values V and its prices P: a zero, the price of a move from its two turns, the joining of a cost with a price, the comparison, and the byte of its letter
@@ -27,7 +27,7 @@ Short m = (m.shoulder ≤ 65535) × (m.elbow ≤ 65535)
 pub record Reached {V P : Type 0} (c : Rules V P) (n : ℕ) (v : V) : Type 0 where
   pub by : List Turns
   pub few : length by ≤ n
-  pub short : All Short by
+  pub short : AllByRecursion Short by
   pub is : v ≡ joined c by
 
 -- a comparison is a total order on the values of which A holds: it is total and transitive, says "equal" exactly of equal values, and "less" exactly where it says "greater" of the two swapped

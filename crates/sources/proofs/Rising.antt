@@ -1,6 +1,6 @@
 -- Lists in strictly rising order, and what a list has. Assumes nothing.
 use Rattle.std.proofs.Common.{◌≡◌, ℕ, zero, suc, ◌+◌, ◌<◌, ◌≤◌, Bool, true, false, cond, ◌⊎◌, List, [], ◌∷◌, ◌++◌, map, length, get_or, filter, sym, refl, ap, ◌∙◌, subst, inl, inr, ⊎_elim, suc-le-suc, le_of_suc-le-suc, not-suc-le-zero, arith}
-use Rattle.std.specs.List.{range_with_len, ContainsAt as Has, flat_map, AllByRecursion as All}
+use Rattle.std.specs.List.{range_with_len, ContainsAt as Has, flat_map, AllByRecursion}
 use Rattle.std.proofs.ByRecursion.{All-append, All-get_or, All-from_get_or, all-has, All-map, all_kept_by, All-weaker, has_append_left, has_append_right}
 use Rattle.std.proofs.lemmas.Bool.{false≢true}
 use Rattle.std.proofs.lemmas.List.FromFn.{length-range_with_len, get_or-range_with_len}
@@ -34,7 +34,7 @@ module _ {X : Type 0} where
   -- strictly rising
   abbrev pub Rising : (X → X → Type 0) → List X → Type 0
   Rising R [] = Unit {0}
-  Rising R (x ∷ xs) = All (R x) xs × Rising R xs
+  Rising R (x ∷ xs) = AllByRecursion (R x) xs × Rising R xs
 
   pub rising_get_or : (R : X → X → Type 0) (xs : List X) (i j : ℕ) (d : X) → Rising R xs → i < j → j < length xs → R (get_or xs i d) (get_or xs j d)
   rising_get_or R [] i j d r h k = absurd (not-suc-le-zero k)
@@ -42,11 +42,11 @@ module _ {X : Type 0} where
   rising_get_or R (x ∷ xs) zero (suc j) d r h k = All-get_or (R x) xs j d (le_of_suc-le-suc k) r.0
   rising_get_or R (x ∷ xs) (suc i) (suc j) d r h k = rising_get_or R xs i j d r.1 (le_of_suc-le-suc h) (le_of_suc-le-suc k)
 
-  pub rising_append : (R : X → X → Type 0) (xs ys : List X) → Rising R xs → Rising R ys → All (λ x. All (R x) ys) xs → Rising R (xs ++ ys)
+  pub rising_append : (R : X → X → Type 0) (xs ys : List X) → Rising R xs → Rising R ys → AllByRecursion (λ x. AllByRecursion (R x) ys) xs → Rising R (xs ++ ys)
   rising_append R [] ys r s a = s
   rising_append R (x ∷ xs) ys r s a = (All-append (R x) xs ys r.0 a.0, rising_append R xs ys r.1 s a.1)
 
-  rising_one : (R : X → X → Type 0) (b : Bool) (x : X) (xs : List X) → All (R x) xs → Rising R xs → Rising R (cond b (x ∷ xs) xs)
+  rising_one : (R : X → X → Type 0) (b : Bool) (x : X) (xs : List X) → AllByRecursion (R x) xs → Rising R xs → Rising R (cond b (x ∷ xs) xs)
   rising_one R true x xs a r = (a, r)
   rising_one R false x xs a r = r
 
@@ -75,7 +75,7 @@ has_joined f (z ∷ xs) x y h k =
     ⊎_elim (λ e. has_append_left (f z) (flat_map f xs) y (subst (λ v. Has (f v) y) (sym e) k)) (λ l. has_append_right (f z) (flat_map f xs) y (has_joined f xs x y l k))
     (has_cases z x xs h)
 
-pub all_joined : {X Y : Type 0} (P : Y → Type 0) (f : X → List Y) (xs : List X) → All (λ x. All P (f x)) xs → All P (flat_map f xs)
+pub all_joined : {X Y : Type 0} (P : Y → Type 0) (f : X → List Y) (xs : List X) → AllByRecursion (λ x. AllByRecursion P (f x)) xs → AllByRecursion P (flat_map f xs)
 all_joined P f [] a = tt
 all_joined P f (x ∷ xs) a = All-append P (f x) (flat_map f xs) a.0 (all_joined P f xs a.1)
 
@@ -84,7 +84,7 @@ pub has_counting : (n k : ℕ) → k < n → Has (range_with_len 0 n) k
 has_counting n k h =
     (k, rw length-range_with_len h, λ d. get_or-range_with_len 0 n k d h ∙ (omega arith))
 
-pub all_counting : (P : ℕ → Type 0) (a n : ℕ) → ((k : ℕ) → a ≤ k → k < a + n → P k) → All P (range_with_len a n)
+pub all_counting : (P : ℕ → Type 0) (a n : ℕ) → ((k : ℕ) → a ≤ k → k < a + n → P k) → AllByRecursion P (range_with_len a n)
 all_counting P a zero h = tt
 all_counting P a (suc n) h = (h a (omega arith) (omega arith), all_counting P (a + 1) n (λ k p q. h k (omega arith) (omega arith)))
 
@@ -94,13 +94,13 @@ rising_counting a (suc n) = (all_counting (λ k. a < k) (a + 1) n (λ k p q. ome
 
 -- two lists in the same strict order that have the same are equal
 module _ {X : Type 0} (R : X → X → Type 0) (never : (x : X) → R x x → ⊥) (one_way : (x y : X) → R x y → R y x → ⊥) where
-  heads : (x y : X) (xs ys : List X) → All (R x) xs → All (R y) ys → (y ≡ x) ⊎ Has ys x → (x ≡ y) ⊎ Has xs y → x ≡ y
+  heads : (x y : X) (xs ys : List X) → AllByRecursion (R x) xs → AllByRecursion (R y) ys → (y ≡ x) ⊎ Has ys x → (x ≡ y) ⊎ Has xs y → x ≡ y
   heads x y xs ys a b (inl e) k = sym e
   heads x y xs ys a b (inr h) (inl e) = e
   heads x y xs ys a b (inr h) (inr k) = absurd (one_way x y (all-has (R x) xs y a k) (all-has (R y) ys x b h))
 
   -- what the rest of one has, the rest of the other has
-  tails : (x y : X) (xs ys : List X) → x ≡ y → All (R x) xs → ((z : X) → Has (x ∷ xs) z → Has (y ∷ ys) z) → (z : X) → Has xs z → Has ys z
+  tails : (x y : X) (xs ys : List X) → x ≡ y → AllByRecursion (R x) xs → ((z : X) → Has (x ∷ xs) z → Has (y ∷ ys) z) → (z : X) → Has xs z → Has ys z
   tails x y xs ys e a f z h =
       ⊎_elim (λ k. absurd (never x (subst (R x) (sym (e ∙ k)) (all-has (R x) xs z a h)))) (λ k. k) (has_cases y z ys (f z (has_there x z xs h)))
 

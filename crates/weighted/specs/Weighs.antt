@@ -1,7 +1,7 @@
 -- The weighted sum is lawful, and keeps. Assumes nothing.
 use Rattle.std.proofs.Common.{ap, arith}
 use Rattle.std.specs.Prelude.{ℕ, ◌*◌, ◌≤◌, List, [], ◌∷◌, length}
-use Rattle.std.specs.List.{AllByRecursion as All}
+use Rattle.std.specs.List.{AllByRecursion}
 use Rattle.ladder.specs.declared.poses.Turns.{Turns}
 use Rattle.ladder.specs.Rules.{Lawful, Keeps, Reached, Short, joined}
 use Rattle.ladder.specs.Numbers.{orders_by, rank_le, le_rank, rank_lt, lt_rank}
@@ -14,7 +14,7 @@ weighing_lawful = record {
   monotone = λ a b m _ _ _ h. le_rank (weighing.join a (weighing.price m)).total (weighing.join b (weighing.price m)).total (omega (arith, rank_le a.total b.total h));
 }
 
-joined_small : (ms : List Turns) → All Short ms → (joined weighing ms).total ≤ 262140 * length ms
+joined_small : (ms : List Turns) → AllByRecursion Short ms → (joined weighing ms).total ≤ 262140 * length ms
 joined_small [] h = omega arith
 joined_small (m ∷ ms) h = omega (arith, joined_small ms h.1, h.0.0, h.0.1)
 

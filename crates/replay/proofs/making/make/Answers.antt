@@ -3,7 +3,7 @@ use borrow.Rule.Slice.PartMut.{post_of}
 use Rattle.ladder.specs.declared.poses.Step.{Step}
 use Rattle.replay.specs.declared.calls.Call.{Call}
 use Rattle.replay.specs.Calls.{Made, places}
-use Rattle.replay.proofs.Making.{map_set_same, nth_map, nth_past, made_add, made_close, made_next, made_seek, unmade_add, unmade_seek}
+use Rattle.replay.proofs.OneCall.{front_long, map_set_same, nth_map, nth_past, made_add, made_close, made_next, made_seek, unmade_add, unmade_seek}
 use Rattle.replay.proofs.making.make.Goals as goal
 
 pub returns-then-source-sources : goal.returns-then-source-sources
@@ -58,7 +58,7 @@ returns-in-Close g c =
     record {
       sources = refl;
       filters = refl;
-      made = subst (λ (x : Call). Made ms fs g.C.Cost.rules x k out (Some a) out m) (sym c.in-Close.is) (made_close g.C.Cost.rules ms fs k m out a c.close.result c.of_count-in-Close.ensures c.close.ensures.outcome);
+      made = subst (λ (x : Call). Made ms fs g.C.Cost.rules x k out (Some a) out m) (sym c.in-Close.is) (made_close g.C.Cost.rules ms fs k m out a c.close.result c.of_count-in-Close.ensures (λ s. (c.close.ensures.sound s, c.close.ensures.outcome)));
     }
 
 pub returns-in-Next : goal.returns-in-Next
@@ -72,7 +72,7 @@ returns-in-Next g c =
     let part = c.next.new.out in
     let a = c.of_track.result in
     let room : n ≤ length out = omega (arith, c.if-places-outputs.false, c.places.ensures, ap places c.in-Next.is) in
-    let long : length part ≡ n = ? in
+    let long : length part ≡ n = c.next.auto.out ∙ front_long n (n - 0) out (omega arith) room in
     record {
       sources = refl;
       filters = refl;
@@ -93,7 +93,7 @@ returns-else-filter-filters g c =
     let part = c.seek.new.out in
     let a = c.of_track-in-Seek.result in
     let room : n ≤ length out = omega (arith, c.if-places-outputs.false, c.places.ensures, ap places c.in-Seek.is) in
-    let long : length part ≡ n = ? in
+    let long : length part ≡ n = c.seek.auto.out ∙ front_long n (n - 0) out (omega arith) room in
     record {
       sources = refl;
       filters = map_set_same passes xs j d c.seek.new.filter c.seek.ensures.same;

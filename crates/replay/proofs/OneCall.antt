@@ -1,7 +1,7 @@
 -- What making one call comes to. Assumes nothing.
 use Rattle.std.proofs.Common.{◌≡◌, ℕ, zero, suc, ◌-◌, ◌<◌, ◌≤◌, Bool, true, false, cond, leb, List, [], ◌∷◌, ◌++◌, map, length, get_or, take, drop, set, Some, None, Option, Result, sym, refl, ap, ◌∙◌, subst, arith}
 use borrow.Rule.Slice.PartMut.{post_of}
-use Rattle.std.proofs.lemmas.List.{take_at, drop_at}
+use Rattle.std.proofs.lemmas.List.{take_at, drop_at, length-take-le}
 use Rattle.std.proofs.lemmas.Bool.{le-leb}
 use Rattle.std.specs.List.{slice_get}
 use Rattle.std.specs.Option.{option_map}
@@ -66,9 +66,13 @@ module _ {C P : Type 0} (r : Rules C P) (ms : List (ℕ → Rung)) (fs : List Fi
     made_seek j f there makes =
         made_so (Seek j n) (record { call = seek f (take n before); answer = told a; output = part }) (part ++ post_of 0 q before) h (ap (option_map (λ (x : Filter). record { call = seek x (take n before); answer = told a; output = take n (part ++ post_of 0 q before) })) there ∙ ap (λ (o : List Step). Some (record { call = seek f (take n before); answer = told a; output = o })) front) (subst (λ (x : book.Answer C). Makes r k (record { call = seek f (take n before); answer = x; output = part }) m) (sym is) (subst (λ (i : ℕ). Makes r k (sought f (take i before) res part) m) same makes)) back
 
+-- the first places of an output that is long enough are just so many
+pub front_long : {X : Type 0} (n q : ℕ) (xs : List X) → q ≡ n → n ≤ length xs → length (take q xs) ≡ n
+front_long n q xs e h = length-take-le q xs (omega arith) ∙ e
+
 -- a call that names what is not there is not made
 module _ {C P : Type 0} (r : Rules C P) (ms : List (ℕ → Rung)) (fs : List Filter) (k m : Core C) (before : List Step) where
-  cond_none : (t : Bool) → cond t None None ≡ None {T = Event C}
+  cond_none : (t : Bool) → ◌≡◌ {A = Option (Event C)} (cond t None None) None
   cond_none true = refl
   cond_none false = refl
 
