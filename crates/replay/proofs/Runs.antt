@@ -1,6 +1,7 @@
 -- A record of calls, grown call by call. Assumes nothing.
-use Rattle.std.proofs.Common.{◌≡◌, ℕ, zero, suc, ◌+◌, ◌-◌, ◌<◌, ◌≤◌, Bool, cond, leb, ◌⊎◌, List, [], ◌∷◌, ◌++◌, length, get_or, take, drop, set, Some, None, Option, sym, refl, ap, ◌∙◌, subst, inl, inr, append_assoc, append-nil, arith, length-append, length-drop}
-use Rattle.std.proofs.lemmas.List.{length-set, length_push, length-take-le, take-append-drop, take_at, take_more, take_more_set, drop_at, drop_more, drop-drop, drop-set-lt, drop_all}
+use Rattle.std.proofs.Common.{◌≡◌, ℕ, zero, suc, ◌+◌, ◌-◌, ◌<◌, ◌≤◌, cond, leb, ◌⊎◌, List, [], ◌∷◌, ◌++◌, length, get_or, take, drop, set, Some, None, Option, sym, refl, ap, ◌∙◌, subst, inl, inr, append_assoc, append-nil, arith, length-append, length-drop}
+use Rattle.std.proofs.lemmas.List.{length-set, length_push, length-take-le, take-append-drop, take_at, take_more, take_more_set, drop_at, drop_more, drop-drop, drop-set-lt, drop_all, take_all}
+use borrow.Rule.Slice.PartMut.{put_mid}
 use Rattle.std.specs.List.{slice_get}
 use Rattle.std.specs.Option.{option_map}
 use Rattle.ladder.specs.declared.poses.Step.{Step}
@@ -8,8 +9,8 @@ use Rattle.ladder.specs.Rules.{Rules}
 use Rattle.ladder.specs.Tracks.{Rung}
 use Rattle.book.specs.Book.{Book, Filter, add, seek}
 use Rattle.book.specs.Book as book
-use Rattle.book.specs.Runs.{Event, Promised}
-use Rattle.resolver.specs.Calls.{Makes, Chain, KeepsPromise}
+use Rattle.book.specs.Runs.{Event}
+use Rattle.resolver.specs.Calls.{Chain}
 use Rattle.resolver.specs.declared.tables.Core.{Core}
 use Rattle.replay.specs.declared.calls.Call.{Call}
 use Rattle.replay.specs.declared.calls.Call.TheVariants.{Add, Close, Next, Seek}
@@ -31,6 +32,17 @@ take_over (x ∷ xs) ys (suc n) p e = ap (λ i. take i (x ∷ xs ++ ys)) (let z 
 places_append : (cs : List Call) (c : Call) → all_places (cs ++ c ∷ []) ≡ all_places cs + places c
 places_append [] c = omega arith
 places_append (x ∷ cs) c = ap (λ i. places x + i) (places_append cs c) ∙ (let z : places x + (all_places cs + places c) ≡ places x + all_places cs + places c = omega arith in z)
+
+-- where a part of a list reaches to its end, so does what is put in its place
+pub tail_put : {X : Type 0} (n : ℕ) (xs ys : List X) → put_mid n (length xs - n) xs ys ≡ take n xs ++ ys
+tail_put n xs ys = ap (λ zs. take n xs ++ (ys ++ zs)) (drop_all (length xs - n) (drop n xs) (omega (arith, length-drop n xs))) ∙ ap (λ zs. take n xs ++ zs) (append-nil ys)
+
+pub tail_is : {X : Type 0} (n : ℕ) (xs : List X) → take (length xs - n) (drop n xs) ≡ drop n xs
+tail_is n xs = take_all (length xs - n) (drop n xs) (omega (arith, length-drop n xs))
+
+-- what is made with sources, filters and places that are the same is the same
+pub made_again : {C P : Type 0} (r : Rules C P) (ms ns : List (ℕ → Rung)) (fs gs : List Filter) (bs ds : List Step) (c : Call) (k m : Core C) (y : Option (Answer C)) (after : List Step) → ms ≡ ns → fs ≡ gs → bs ≡ ds → Made ms fs r c k bs y after m → Made ns gs r c k ds y after m
+made_again r ms ns fs gs bs ds c k m y after p q b made = coe 0 1 (i. Made (p i) (q i) r c k (b i) y after m) made
 
 module _ {C P : Type 0} (r : Rules C P) (ms : List (ℕ → Rung)) (fs : List Filter) where
   -- a call's event looks at the first places of its output alone

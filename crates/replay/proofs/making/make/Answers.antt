@@ -1,6 +1,5 @@
-use Rattle.std.proofs.Common.{◌≡◌, ◌-◌, ◌≤◌, List, ◌++◌, map, length, get_or, Some, None, sym, refl, ap, ◌∙◌, subst, arith}
+use Rattle.std.proofs.Common.{◌≡◌, ◌-◌, ◌≤◌, ◌++◌, map, length, get_or, Some, None, sym, refl, ap, ◌∙◌, subst, arith}
 use borrow.Rule.Slice.PartMut.{post_of}
-use Rattle.ladder.specs.declared.poses.Step.{Step}
 use Rattle.replay.specs.declared.calls.Call.{Call}
 use Rattle.replay.specs.Calls.{Made, places}
 use Rattle.replay.proofs.OneCall.{front_long, map_set_same, nth_map, nth_past, made_add, made_close, made_next, made_seek, unmade_add, unmade_seek}
