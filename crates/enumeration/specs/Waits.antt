@@ -1,5 +1,5 @@
 -- The candidates that wait at one pose. Assumes nothing.
-use Rattle.std.specs.Prelude.{◌≡◌, ℕ, ◌+◌, ◌<◌, ◌≤◌, cond, List, [], ◌∷◌, length, get_or, take, sum_by, Option, MatchOption, ◌==◌, slice_index_or}
+use Rattle.std.specs.Prelude.{◌≡◌, ℕ, ◌+◌, ◌<◌, ◌≤◌, cond, List, [], ◌∷◌, length, take, sum_by, Option, MatchOption, ◌==◌, slice_index_or}
 use Rattle.std.specs.List.{AllByRecursion}
 use Rattle.heap.specs.Order.{Stands}
 use Rattle.ladder.specs.declared.poses.Limits.{Limits}
@@ -51,5 +51,5 @@ module _ {C P : Type 0} (c : Rules C P) (l : Limits) (r q : Rung) (rs : Ladder) 
   -- x is the track of rank n at pose v
   pub record RankedNext (n : ℕ) (used : ℕ → ℕ) (x : Candidate C) : Type 0 where
     pub exists : n < length (ending c l (r ∷ q ∷ rs) v)
-    pub extends : get_or (ending c l (r ∷ q ∷ rs) v) n [] ≡ v ∷ slice_index_or (ending c l (q ∷ rs) (origin_of x)) x.back.rank.0 []
+    pub extends : slice_index_or (ending c l (r ∷ q ∷ rs) v) n [] ≡ v ∷ slice_index_or (ending c l (q ∷ rs) (origin_of x)) x.back.rank.0 []
     pub stands : StandsFor used x

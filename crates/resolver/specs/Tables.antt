@@ -1,5 +1,5 @@
 -- The tables of a resolver, read by rung, pose number and place. Assumes nothing.
-use Rattle.std.specs.Prelude.{ℕ, ◌+◌, ◌*◌, false, List, get_or, pos, slice_index_or}
+use Rattle.std.specs.Prelude.{ℕ, ◌+◌, ◌*◌, false, List, pos, slice_index_or}
 use Rattle.std.specs.List.{between}
 use Rattle.ladder.specs.Rules.{Rules}
 use Rattle.enumeration.specs.declared.records.Station.{Station}
@@ -25,7 +25,7 @@ station_in ss r v = slice_index_or ss (16 * r + v) no_station
 
 -- how many poses rung r has
 abbrev pub size_in : List Extent → ℕ → ℕ
-size_in es r = (get_or es r no_extent).poses
+size_in es r = (slice_index_or es r no_extent).poses
 
 module _ {C : Type 0} (k : Core C) where
   abbrev pub station_at : ℕ → ℕ → Station
@@ -36,7 +36,7 @@ module _ {C : Type 0} (k : Core C) where
 
   -- how many places of rung r's ranked block are in use
   abbrev pub used_at : ℕ → ℕ
-  used_at r = (get_or k.extents r no_extent).ranked
+  used_at r = (slice_index_or k.extents r no_extent).ranked
 
   -- the 16 candidate places of pose v of rung r
   abbrev pub slots_at : ℕ → ℕ → List (Candidate C)
