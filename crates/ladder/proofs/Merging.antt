@@ -100,11 +100,11 @@ module _ {X : Type 0} {A : X → Type 0} {cmp : X → X → Ordering} (R : Ranks
         step (inr more) = more
 
   -- where the first n of xs are used, the least of what is first in each row is the next of xs; and where each row is used up, so is xs
-  pub record Goes_on (n : ℕ) (used : ℕ → ℕ) : Type 0 where
+  pub record GoesOn (n : ℕ) (used : ℕ → ℕ) : Type 0 where
     pub next : (w : ℕ) → Fit w → used w < long w → ((u : ℕ) → Fit u → used u < long u → is_le (cmp (el w (used w)) (el u (used u))) ≡ true) → (n < length xs) × (get_or xs n d ≡ el w (used w)) × Used (suc n) (bumped used w)
     pub done : ((u : ℕ) → Fit u → used u < long u → ⊥) → length xs ≤ n
 
-  pub goes_on : (n : ℕ) (used : ℕ → ℕ) → Used n used → Goes_on n used
+  pub goes_on : (n : ℕ) (used : ℕ → ℕ) → Used n used → GoesOn n used
   goes_on n used exact = record {
     next = λ w fw hw best. let p = next_is n used exact w fw hw best in (p.0, p.1, next_used n used exact w fw hw best);
     done = none_next n used exact;

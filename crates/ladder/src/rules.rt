@@ -14,7 +14,7 @@ pub trait Cost: Copy {
     // The letter that stands for the cost in print.
     const LETTER: u8;
 
-    // `LETTER`, which no contract can name.
+    // `LETTER`, as contracts name it: `rules.letter`.
     fn letter_byte() -> u8
         ensures { result ≡ rules.letter };
 
