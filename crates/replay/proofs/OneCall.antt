@@ -1,8 +1,9 @@
 -- What making one call comes to. Assumes nothing.
-use Rattle.std.proofs.Common.{◌≡◌, ℕ, zero, suc, ◌<◌, ◌≤◌, Bool, true, false, cond, leb, List, [], ◌∷◌, ◌++◌, map, length, get_or, take, drop, set, Some, None, Option, Result, sym, refl, ap, ◌∙◌, subst, arith}
+use Rattle.std.proofs.Common.{◌≡◌, ℕ, ◌<◌, ◌≤◌, Bool, true, false, cond, leb, List, [], ◌++◌, map, length, get_or, take, drop, Some, None, Option, Result, sym, refl, ap, ◌∙◌, subst, arith}
 use borrow.Rule.Slice.PartMut.{post_of}
 use Rattle.std.proofs.lemmas.List.{take_at, drop_at, length-take-le}
 use Rattle.std.proofs.lemmas.Bool.{le-leb}
+use Rattle.std.proofs.lemmas.Option.{slice_get-map, slice_get-get_or, slice_get_past}
 use Rattle.std.specs.List.{slice_get}
 use Rattle.std.specs.Option.{option_map}
 use Rattle.ladder.specs.declared.poses.Step.{Step}
@@ -22,21 +23,12 @@ use Rattle.replay.specs.declared.calls.Answer.{Answer}
 use Rattle.replay.specs.Calls.{told, places, named, Made}
 
 module _ {X Y : Type 0} (f : X → Y) where
-  -- an element that means the same
-  pub map_set_same : (xs : List X) (i : ℕ) (d y : X) → f y ≡ f (get_or xs i d) → map f (set xs i y) ≡ map f xs
-  map_set_same [] i d y h = refl
-  map_set_same (z ∷ zs) zero d y h = ap (λ v. v ∷ map f zs) h
-  map_set_same (z ∷ zs) (suc i) d y h = ap (λ vs. f z ∷ vs) (map_set_same zs i d y h)
-
+  -- what the i-th element means, and none past the end
   pub nth_map : (xs : List X) (i : ℕ) (d : X) → i < length xs → slice_get (map f xs) i ≡ Some (f (get_or xs i d))
-  nth_map [] i d l = absurd (let no_way : ⊥ = omega arith in no_way)
-  nth_map (z ∷ zs) zero d l = refl
-  nth_map (z ∷ zs) (suc i) d l = nth_map zs i d (omega arith)
+  nth_map xs i d l = slice_get-map f xs i ∙ ap (option_map f) (slice_get-get_or xs i d l)
 
   pub nth_past : (xs : List X) (i : ℕ) → length xs ≤ i → slice_get (map f xs) i ≡ None
-  nth_past [] i l = refl
-  nth_past (z ∷ zs) zero l = absurd (let no_way : ⊥ = omega arith in no_way)
-  nth_past (z ∷ zs) (suc i) l = nth_past zs i (omega arith)
+  nth_past xs i l = slice_get-map f xs i ∙ ap (option_map f) (slice_get_past xs i l)
 
 module _ {C P : Type 0} (r : Rules C P) (ms : List (ℕ → Rung)) (fs : List Filter) (k m : Core C) (before : List Step) (a : Answer C) where
   made_so : (c : Call) (e : Event C) (after : List Step) → places c ≤ length before → named ms fs c (told a) before after ≡ Some e → Makes r k e m → drop (places c) after ≡ drop (places c) before → Made ms fs r c k before (Some a) after m

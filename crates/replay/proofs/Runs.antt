@@ -1,6 +1,7 @@
 -- A record of calls, grown call by call. Assumes nothing.
-use Rattle.std.proofs.Common.{◌≡◌, ℕ, zero, suc, ◌+◌, ◌-◌, ◌<◌, ◌≤◌, cond, leb, ◌⊎◌, List, [], ◌∷◌, ◌++◌, length, get_or, take, drop, set, Some, None, Option, sym, refl, ap, ◌∙◌, subst, inl, inr, append_assoc, append-nil, arith, length-append, length-drop}
+use Rattle.std.proofs.Common.{◌≡◌, ℕ, ◌+◌, ◌-◌, ◌<◌, ◌≤◌, cond, leb, ◌⊎◌, List, [], ◌∷◌, ◌++◌, length, get_or, take, drop, set, Some, None, Option, sym, refl, ap, ◌∙◌, subst, inl, inr, append_assoc, append-nil, arith, length-append, length-drop}
 use Rattle.std.proofs.lemmas.List.{length-set, length_push, length-take-le, take-append-drop, take_at, take_more, take_more_set, drop_at, drop_more, drop-drop, drop-set-lt, drop_all, take_all}
+use Rattle.std.proofs.Math.Seq.{take-append-add}
 use borrow.Rule.Slice.PartMut.{put_mid}
 use Rattle.std.specs.List.{slice_get}
 use Rattle.std.specs.Option.{option_map}
@@ -25,9 +26,7 @@ drop_front : {X : Type 0} (n : ℕ) (xs ys : List X) → n ≤ length xs → dro
 drop_front n xs ys h = drop_at (take n xs) ys n (length-take-le n xs h)
 
 take_over : {X : Type 0} (xs ys : List X) (n p : ℕ) → length xs ≡ n → take (n + p) (xs ++ ys) ≡ xs ++ take p ys
-take_over [] ys n p e = ap (λ i. take i ys) (let z : n + p ≡ p = omega arith in z)
-take_over (x ∷ xs) ys zero p e = absurd (let no_way : ⊥ = omega arith in no_way)
-take_over (x ∷ xs) ys (suc n) p e = ap (λ i. take i (x ∷ xs ++ ys)) (let z : suc n + p ≡ suc (n + p) = omega arith in z) ∙ ap (λ zs. x ∷ zs) (take_over xs ys n p (omega arith))
+take_over xs ys n p e = ap (λ i. take (i + p) (xs ++ ys)) (sym e) ∙ take-append-add xs ys p
 
 places_append : (cs : List Call) (c : Call) → all_places (cs ++ c ∷ []) ≡ all_places cs + places c
 places_append [] c = omega arith

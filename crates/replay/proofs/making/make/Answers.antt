@@ -1,8 +1,9 @@
 use Rattle.std.proofs.Common.{◌≡◌, ◌-◌, ◌≤◌, ◌++◌, map, length, get_or, Some, None, sym, refl, ap, ◌∙◌, subst, arith}
+use Rattle.std.proofs.Math.Seq.{map-set_same}
 use borrow.Rule.Slice.PartMut.{post_of}
 use Rattle.replay.specs.declared.calls.Call.{Call}
 use Rattle.replay.specs.Calls.{Made, places}
-use Rattle.replay.proofs.OneCall.{front_long, map_set_same, nth_map, nth_past, made_add, made_close, made_next, made_seek, unmade_add, unmade_seek}
+use Rattle.replay.proofs.OneCall.{front_long, nth_map, nth_past, made_add, made_close, made_next, made_seek, unmade_add, unmade_seek}
 use Rattle.replay.proofs.making.make.Goals as goal
 
 pub returns-then-source-sources : goal.returns-then-source-sources
@@ -41,7 +42,7 @@ returns-else-source-sources g c =
     let out = c.args.outputs.now in
     let a = c.of_count.result in
     record {
-      sources = map_set_same mean xs i d c.add.new.source c.add.ensures.same;
+      sources = map-set_same mean xs i c.add.new.source d c.add.ensures.same;
       filters = refl;
       made = subst (λ (x : Call). Made (map mean xs) fs g.C.Cost.rules x k out (Some a) out m) (sym c.in-Add.is) (made_add g.C.Cost.rules (map mean xs) fs k m out a i c.in-Add.waypoint (mean (get_or xs i d)) c.add.result (nth_map mean xs i d c.if-source-sources.false) c.of_count.ensures c.add.ensures.outcome);
     }
@@ -95,6 +96,6 @@ returns-else-filter-filters g c =
     let long : length part ≡ n = c.seek.auto.out ∙ front_long n (n - 0) out (omega arith) room in
     record {
       sources = refl;
-      filters = map_set_same passes xs j d c.seek.new.filter c.seek.ensures.same;
+      filters = map-set_same passes xs j c.seek.new.filter d c.seek.ensures.same;
       made = subst (λ (x : Call). Made ms (map passes xs) g.C.Cost.rules x k out (Some a) (part ++ post_of 0 (n - 0) out) m) (sym c.in-Seek.is) (made_seek g.C.Cost.rules ms (map passes xs) k m out a n (n - 0) (omega arith) room part long c.seek.result c.of_track-in-Seek.ensures j (passes (get_or xs j d)) (nth_map passes xs j d c.if-filter-filters.false) c.seek.ensures.outcome);
     }
