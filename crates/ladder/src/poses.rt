@@ -3,32 +3,32 @@ ghost use Rattle.std.specs.Prelude.{◌≡◌};
 ghost use Rattle.ladder.specs.Moves.{turns, within};
 
 // The detent counts of the two joints.
-#[derive(Clone, Copy)]
+#[derive(Clone, Copy, PartialEq, Eq, Debug, Default)]
 pub struct Pose {
     pub shoulder: i16,
     pub elbow: i16,
 }
 
 // The number of a pose within its rung, from 0.
-#[derive(Clone, Copy)]
+#[derive(Clone, Copy, PartialEq, Eq, PartialOrd, Ord, Debug, Default)]
 pub struct PoseNumber(pub u8);
 
 // A pose number with its pose.
-#[derive(Clone, Copy)]
+#[derive(Clone, Copy, PartialEq, Eq, Debug, Default)]
 pub struct Step {
     pub number: PoseNumber,
     pub pose: Pose,
 }
 
 // How far each joint turns in one move.
-#[derive(Clone, Copy)]
+#[derive(Clone, Copy, PartialEq, Eq, Debug)]
 pub struct Turns {
     pub shoulder: u16,
     pub elbow: u16,
 }
 
 // How far each joint may turn in one move.
-#[derive(Clone, Copy)]
+#[derive(Clone, Copy, PartialEq, Eq, Debug)]
 pub struct Limits {
     pub shoulder: u16,
     pub elbow: u16,
