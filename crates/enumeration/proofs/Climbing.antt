@@ -80,9 +80,6 @@ module _ {C P : Type 0} (c : Rules C P) (laws : Lawful c) (l : Limits) (b : Boun
   advanceable_at t s room zero v h nv free small = tt
   advanceable_at t s room (suc p) v h nv free small = λ e. steady t s room p v h nv e free small
 
-  sizes_few : (t : Tables C) → RungsSound c l t n → (q : ℕ) → q < n → t.size q ≤ 16
-  sizes_few t s q h = (s q h).few
-
   unchanged_sound : (t m : Tables C) → ((q : ℕ) → q < n → t.used q ≤ w) → Unchanged w t m → RungsSound c l t n → RungsSound c l m n
   unchanged_sound t m room u s q h =
       rung_kept c l t m w q

@@ -5,15 +5,15 @@ ghost use Rattle.enumeration.specs.Blanks.{blank_station, blank_track, blank_can
 use ladder::poses::{Pose, PoseNumber};
 
 // The rank of a track among those that end at one pose, from 0.
-#[derive(Clone, Copy)]
+#[derive(Clone, Copy, PartialEq, Eq, PartialOrd, Ord, Debug, Default)]
 pub struct Rank(pub u16);
 
 // A place within the ranked block of one rung.
-#[derive(Clone, Copy)]
+#[derive(Clone, Copy, PartialEq, Eq, PartialOrd, Ord, Debug, Default)]
 pub struct Place(pub u16);
 
 // A back-pointer: which track of the rung before is extended.
-#[derive(Clone, Copy)]
+#[derive(Clone, Copy, PartialEq, Eq, PartialOrd, Ord, Debug, Default)]
 pub struct Back {
     pub pose: PoseNumber,
     pub rank: Rank,
@@ -21,7 +21,7 @@ pub struct Back {
 
 // A found track: its cost, the pose where it ends and its rank there, the track that it extends and where that one lies
 // in the block of the rung before, and where the next rank at the same pose lies, once that is found.
-#[derive(Clone, Copy)]
+#[derive(Clone, Copy, PartialEq, Eq, Debug)]
 pub struct Ranked<C> {
     pub cost: C,
     pub pose: PoseNumber,
@@ -33,7 +33,7 @@ pub struct Ranked<C> {
 
 // A candidate for the next rank at a pose: its cost there, the cost of the track that it extends (its front), which one that is,
 // and where that one lies.
-#[derive(Clone, Copy)]
+#[derive(Clone, Copy, PartialEq, Eq, Debug)]
 pub struct Candidate<C> {
     pub whole: C,
     pub front: C,
@@ -42,8 +42,8 @@ pub struct Candidate<C> {
 }
 
 // A pose of a rung: how many candidates wait at it, how many ranks are found there and where the last of them lies, and whether the
-// successor of that one's front has yet to be entered as a candidate.
-#[derive(Clone, Copy)]
+// successor of that one's front has yet to be entered as a candidate. `found` says whether `last` means anything, which an `Option` would say again.
+#[derive(Clone, Copy, PartialEq, Eq, Debug, Default)]
 pub struct Station {
     pub pose: Pose,
     pub waiting: u8,
@@ -53,7 +53,7 @@ pub struct Station {
 }
 
 // How many poses a rung has, and how many places of its ranked block are in use.
-#[derive(Clone, Copy)]
+#[derive(Clone, Copy, PartialEq, Eq, Debug, Default)]
 pub struct Extent {
     pub poses: u8,
     pub ranked: u16,
@@ -64,16 +64,7 @@ impl Station {
     pub fn blank() -> Station
         ensures { result ≡ blank_station }
     {
-        Station {
-            pose: Pose {
-                shoulder: 0,
-                elbow: 0,
-            },
-            waiting: 0,
-            found: 0,
-            last: Place(0),
-            pending: false,
-        }
+        Station::default()
     }
 }
 
@@ -82,15 +73,11 @@ impl<C> Ranked<C> {
     pub fn blank(cost: C) -> Ranked<C>
         ensures { result ≡ blank_track cost }
     {
-        let back = Back {
-            pose: PoseNumber(0),
-            rank: Rank(0),
-        };
         Ranked {
             cost,
             pose: PoseNumber(0),
             rank: Rank(0),
-            back,
+            back: Back::default(),
             front: Place(0),
             after: Place(0),
         }
@@ -102,14 +89,10 @@ impl<C: Copy> Candidate<C> {
     pub fn blank(cost: C) -> Candidate<C>
         ensures { result ≡ blank_candidate cost }
     {
-        let back = Back {
-            pose: PoseNumber(0),
-            rank: Rank(0),
-        };
         Candidate {
             whole: cost,
             front: cost,
-            back,
+            back: Back::default(),
             place: Place(0),
         }
     }

@@ -7,21 +7,17 @@ use heap::Ordered;
 use ladder::poses::{Limits, Pose, Turns};
 use ladder::rules::Cost;
 
+// By `compare` of the costs, which orders reached costs alone: an `Ord` cannot be derived.
 impl<C: Cost> Ordered for Candidate<C> {
     ghost valid = { ReachedBoth C.Cost.rules };
 
     ghost before = { earlier C.Cost.rules };
 
     fn is_before(self, other: Candidate<C>) -> bool {
-        let backs = self
-            .back
-            .pose
-            .0
-            .cmp(&other.back.pose.0)
-            .then(self.back.rank.0.cmp(&other.back.rank.0));
         self.whole
             .compare(other.whole)
-            .then(self.front.compare(other.front).then(backs))
+            .then(self.front.compare(other.front))
+            .then(self.back.cmp(&other.back))
             .is_lt()
     }
 }
@@ -37,17 +33,13 @@ pub fn extension<C: Cost>(
     ensures { result ≡ extended C.Cost.rules limits from to front place }
 {
     let turns = Turns::between(from, to);
-    if !limits.allow(turns) {
-        return None;
-    }
-    let back = Back {
-        pose: front.pose,
-        rank: front.rank,
-    };
-    Some(Candidate {
+    limits.allow(turns).then(|| Candidate {
         whole: front.cost.join(C::price(turns)),
         front: front.cost,
-        back,
+        back: Back {
+            pose: front.pose,
+            rank: front.rank,
+        },
         place,
     })
 }

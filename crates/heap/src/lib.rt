@@ -5,7 +5,8 @@ ghost use Rattle.std.specs.Prelude.{◌≡◌, ℕ, ◌+◌, ◌-◌, ◌*◌, �
 ghost use Rattle.std.specs.List.Sorted.{IsPermutation};
 ghost use Rattle.heap.specs.Order.{OrderOn, Valid, Heaped, Best, Least, Stands, Pushed, Popped, used};
 
-// A record that a heap may hold. What a heap promises of the least rests on `before` being an order on the records that are `valid`.
+// A record that a heap may hold. What a heap promises of the least rests on `before` being an order on the records that are `valid`: a premise
+// and no law of the trait, which would shut out records that are only kept and given back, and not ordered.
 pub trait Ordered: Copy {
     ghost valid: { Self → Type 0 };
 
@@ -40,7 +41,7 @@ fn first_child<T: Ordered>(slots: &[T], at: usize) -> usize
     left
 }
 
-// Brings the last record up to its place.
+// Brings the last record up to its place. The loop goes from child to parent by halves, as no range or iterator does.
 fn sift_up<T: Ordered>(slots: &mut [T])
     ensures same { IsPermutation slots.old slots.new }
     ensures rises { OrderOn T.valid T.before → Valid T.valid slots.old (length slots.old) → Heaped T.before slots.old 0 (length slots.old - 1) → Stands T.valid T.before slots.new (length slots.old) }
@@ -60,7 +61,7 @@ fn sift_up<T: Ordered>(slots: &mut [T])
     }
 }
 
-// Brings the first record down to its place.
+// Brings the first record down to its place, from parent to child.
 fn sift_down<T: Ordered>(slots: &mut [T])
     ensures same { IsPermutation slots.old slots.new }
     ensures sinks { OrderOn T.valid T.before → Valid T.valid slots.old (length slots.old) → Heaped T.before slots.old 1 (length slots.old) → Stands T.valid T.before slots.new (length slots.old) }
@@ -106,7 +107,7 @@ fn take<T: Ordered>(slots: &mut [T], len: usize) -> T
     take_first(&mut slots[0..len])
 }
 
-// A heap: the first `len` of the slots are in use.
+// A heap: the first `len` of the slots are in use. The slots are lent by a host that may have no allocator, so no `Vec` holds them.
 #[derive(Drop)]
 pub struct Heap<'a, T> {
     slots: &'a mut [T],
@@ -114,7 +115,7 @@ pub struct Heap<'a, T> {
 }
 
 // The refusal of a push: every slot is in use.
-#[derive(Clone, Copy)]
+#[derive(Clone, Copy, PartialEq, Eq, Debug)]
 pub struct Full;
 
 impl<'a, T: Ordered> Heap<'a, T> {

@@ -1,12 +1,11 @@
 -- The tracks that end at one pose. Assumes nothing.
-use Rattle.std.proofs.Common.{◌≡◌, ℕ, ◌<◌, ◌≤◌, true, eqb, ltb, ◌↔◌, List, [], ◌∷◌, length, get_or, Equal, sym, refl, ap, ◌∙◌, subst, inl, inr, arith}
+use Rattle.std.proofs.Common.{◌≡◌, ℕ, ◌<◌, ◌≤◌, true, eqb, ltb, ◌↔◌, [], ◌∷◌, length, get_or, Equal, sym, refl, ap, ◌∙◌, subst, inl, inr, arith}
 use Rattle.std.specs.Ordering.{is_le}
 use Rattle.std.specs.List.{AllByRecursion}
 use Rattle.std.proofs.lemmas.Bool.{false≢true, and_parts, and_from, ltb-true, lt-ltb, eqb-true, eq-eqb}
 use Rattle.ladder.specs.declared.poses.Limits.{Limits}
-use Rattle.ladder.specs.Moves.{turns}
 use Rattle.ladder.specs.Rules.{Rules, Lawful, Reached}
-use Rattle.ladder.specs.Tracks.{Rung, Ladder, Track, Bounded, Admissible, in_range, step_at, cost}
+use Rattle.ladder.specs.Tracks.{Rung, Ladder, Track, Bounded, Admissible, in_range, cost}
 use Rattle.ladder.specs.Listed.{peel, In, Ascending, ListOf, tracks_of}
 use Rattle.ladder.specs.Ranking.{ending}
 use Rattle.ladder.specs.Ranked.{Ranks}
@@ -22,10 +21,6 @@ use Rattle.ladder.proofs.Forward.{in_range_picks}
 pub cost_one : {V P : Type 0} (c : Rules V P) (r : Rung) (t : Track) → cost c (r ∷ []) t ≡ c.zero
 cost_one c r [] = refl
 cost_one c r (j ∷ t) = refl
-
--- one rung more is one price more
-pub cost_more : {V P : Type 0} (c : Rules V P) (r q : Rung) (rs : Ladder) (v u : ℕ) (t : Track) → cost c (r ∷ q ∷ rs) (v ∷ u ∷ t) ≡ c.join (cost c (q ∷ rs) (u ∷ t)) (c.price (turns (step_at q u).pose (step_at r v).pose))
-cost_more c r q rs v u t = refl
 
 -- ---- tracks that end at a pose
 
@@ -107,14 +102,6 @@ module _ {V P : Type 0} (c : Rules V P) (laws : Lawful c) (l : Limits) (b : Boun
     -- its cost is reached by one price for each rung but the first
     pub rank_reached : (n u i : ℕ) → length rs ≤ n → i < length (ending c l (r ∷ rs) u) → Reached c n (cost c (r ∷ rs) (get_or (ending c l (r ∷ rs) u) i []))
     rank_reached n u i k h = reached_more c (length rs) n _ k (rank_at u i h).reached
-
-    -- no track ends at a pose that the rung lacks
-    pub ending_none : (u : ℕ) → length r ≤ u → ending c l (r ∷ rs) u ≡ []
-    ending_none u h = step (ending c l (r ∷ rs) u) refl
-      where
-        step : (ts : List Track) → ending c l (r ∷ rs) u ≡ ts → ts ≡ []
-        step [] e = refl
-        step (t ∷ ts) e = let k = (ending_at u t (subst (In t) (sym e) (inl refl))).there in absurd (omega arith)
 
     -- the tracks of the list are those that end at the poses of the last rung
     pub listed_ends : (t : Track) → In t (tracks_of c l (r ∷ rs)) ↔ ((u : ℕ) × (u < length r) × In t (ending c l (r ∷ rs) u))

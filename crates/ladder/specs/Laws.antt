@@ -1,11 +1,12 @@
 -- Travel, the worst step and pairs are lawful, and travel keeps. Assumes nothing.
-use Rattle.std.specs.Prelude.{◌≡◌, ℕ, ◌+◌, ◌*◌, ◌≤◌, true, List, [], ◌∷◌, length, refl}
+use Rattle.std.specs.Prelude.{◌≡◌, ℕ, ◌+◌, ◌*◌, ◌≤◌, min, true, List, [], ◌∷◌, length, refl}
 use Rattle.std.specs.declared.cmp.Ordering.TheVariants.{Less, Equal, Greater}
 use Rattle.std.specs.declared.cmp.Ordering.{Ordering}
 use Rattle.std.proofs.Common.{◌∙◌, ap, subst, arith}
-use Rattle.std.specs.Ordering.{is_le, ordering_then}
+use Rattle.std.specs.Ordering.{is_le, ordering_then, nat_cmp}
 use Rattle.std.specs.List.{AllByRecursion}
 use Rattle.std.proofs.lemmas.Bool.{false≢true}
+use Rattle.std.proofs.Math.Nat.{mul-suc, mul-le-mul_left}
 use Rattle.ladder.specs.declared.poses.Turns.{Turns}
 use Rattle.ladder.specs.declared.costs.Travel.{Travel}
 use Rattle.ladder.specs.declared.costs.Pair.{Pair}
@@ -26,24 +27,55 @@ module _ {V P : Type 0} (c : Rules V P) where
   pub reached_join : (n : ℕ) (v : V) (m : Turns) → Reached c n v → Short m → Reached c (n + 1) (c.join v (c.price m))
   reached_join n v m r s = record { by = m ∷ r.by; few = omega (arith, r.few); short = (s, r.short); is = ap (λ w. c.join w (c.price m)) r.is }
 
+-- ---- sums
+
+-- a cost that is a number and adds its prices, up to the greatest 32-bit number
+abbrev pub adding : {V : Type 0} → (V → ℕ) → (ℕ → V) → (Turns → ℕ) → ℕ → Rules V ℕ
+adding total make price letter = record {
+  zero = make 0;
+  price = price;
+  join = λ v p. make (min (total v + p) 4294967295);
+  compare = λ v w. nat_cmp (total v) (total w);
+  letter = letter;
+}
+
+module _ {V : Type 0} (total : V → ℕ) (make : ℕ → V) (price : Turns → ℕ) (letter : ℕ) (made : (n : ℕ) → total (make n) ≡ n) where
+  -- one price more
+  abbrev after : V → Turns → V
+  after v m = make (min (total v + price m) 4294967295)
+
+  after-total : (v : V) (m : Turns) → total (after v m) ≡ min (total v + price m) 4294967295
+  after-total v m = made (min (total v + price m) 4294967295)
+
+  pub adding_lawful : ((v w : V) → total v ≡ total w → v ≡ w) → Lawful (adding total make price letter)
+  adding_lawful one = record {
+    order = orders_by (Reached (adding total make price letter) 127) total one;
+    monotone = λ a b m _ _ _ h. le_rank (total (after a m)) (total (after b m)) (omega (arith, after-total a m, after-total b m, rank_le (total a) (total b) h));
+  }
+
+  module _ (most : ℕ) (bound : (m : Turns) → Short m → price m ≤ most) where
+    joined_small : (ms : List Turns) → AllByRecursion Short ms → total (joined (adding total make price letter) ms) ≤ most * length ms
+    joined_small [] h = omega (arith, made 0)
+    joined_small (m ∷ ms) h = omega (arith, after-total (joined (adding total make price letter) ms) m, joined_small ms h.1, bound m h.0, mul-suc most (length ms))
+
+    -- what n moves reach is at most n times the greatest price
+    pub adding_small : (n : ℕ) (v : V) → Reached (adding total make price letter) n v → total v ≤ most * n
+    adding_small n v r = omega (arith, ap total r.is, joined_small r.by r.short, mul-le-mul_left most r.few)
+
+    pub adding_keeps : most * 127 ≤ 4294967295 → Keeps (adding total make price letter)
+    adding_keeps room a b m x y s h =
+        lt_rank (total (after a m)) (total (after b m)) (omega (arith, after-total a m, after-total b m, rank_lt (total a) (total b) h, adding_small 126 a x, adding_small 126 b y, bound m s, room, mul-suc most 126))
+
 -- ---- travel
 
 pub travel_lawful : Lawful travel
-travel_lawful = record {
-  order = orders_by (Reached travel 127) (λ v. v.total) (λ v w e. λ i. record { total = e i });
-  monotone = λ a b m _ _ _ h. le_rank (travel.join a (travel.price m)).total (travel.join b (travel.price m)).total (omega (arith, rank_le a.total b.total h));
-}
-
-joined_small : (ms : List Turns) → AllByRecursion Short ms → (joined travel ms).total ≤ 131070 * length ms
-joined_small [] h = omega arith
-joined_small (m ∷ ms) h = omega (arith, joined_small ms h.1, h.0.0, h.0.1)
+travel_lawful = adding_lawful (λ v. v.total) (λ n. record { total = n }) (λ m. m.shoulder + m.elbow) 84 (λ n. refl) (λ v w e. λ i. record { total = e i })
 
 pub travel_small : (n : ℕ) (v : Travel) → Reached travel n v → v.total ≤ 131070 * n
-travel_small n v r = omega (arith, ap (λ w. w.total) r.is, joined_small r.by r.short, r.few)
+travel_small = adding_small (λ v. v.total) (λ n. record { total = n }) (λ m. m.shoulder + m.elbow) 84 (λ n. refl) 131070 (λ m s. omega (arith, s.0, s.1))
 
 pub travel_keeps : Keeps travel
-travel_keeps a b m x y s h =
-    lt_rank (travel.join a (travel.price m)).total (travel.join b (travel.price m)).total (omega (arith, rank_lt a.total b.total h, travel_small 126 a x, travel_small 126 b y, s.0, s.1))
+travel_keeps = adding_keeps (λ v. v.total) (λ n. record { total = n }) (λ m. m.shoulder + m.elbow) 84 (λ n. refl) 131070 (λ m s. omega (arith, s.0, s.1)) (omega arith)
 
 pub never_saturates : NeverSaturates
 never_saturates = record {

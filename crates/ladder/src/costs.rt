@@ -1,5 +1,5 @@
 // The costs: travel, the worst step, and pairs.
-ghost use Rattle.std.specs.Prelude.{◌≡◌};
+ghost use Rattle.std.specs.Prelude.{◌≡◌, refl};
 ghost use Rattle.ladder.specs.Costs.{travel, worst, pair};
 ghost use Rattle.ladder.specs.Laws.{travel_lawful, travel_keeps, worst_lawful, pair_lawful};
 
@@ -8,7 +8,7 @@ use crate::rules::{Cost, Keeping};
 use std::cmp::Ordering;
 
 // The sum of all turns.
-#[derive(Clone, Copy)]
+#[derive(Clone, Copy, PartialEq, Eq, PartialOrd, Ord, Debug)]
 pub struct Travel {
     pub total: u32,
 }
@@ -20,11 +20,11 @@ impl Cost for Travel {
 
     const LETTER: u8 = b'T';
 
-    ghost lawful = { travel_lawful };
+    ghost LETTER = { 84 };
 
-    fn letter_byte() -> u8 {
-        Self::LETTER
-    }
+    ghost lettered = { refl };
+
+    ghost lawful = { travel_lawful };
 
     fn zero() -> Travel {
         Travel { total: 0 }
@@ -41,7 +41,7 @@ impl Cost for Travel {
     }
 
     fn compare(self, other: Travel) -> Ordering {
-        self.total.cmp(&other.total)
+        self.cmp(&other)
     }
 }
 
@@ -50,7 +50,7 @@ impl Keeping for Travel {
 }
 
 // The largest turn of a joint in one move.
-#[derive(Clone, Copy)]
+#[derive(Clone, Copy, PartialEq, Eq, PartialOrd, Ord, Debug)]
 pub struct Worst {
     pub turn: u16,
 }
@@ -62,11 +62,11 @@ impl Cost for Worst {
 
     const LETTER: u8 = b'W';
 
-    ghost lawful = { worst_lawful };
+    ghost LETTER = { 87 };
 
-    fn letter_byte() -> u8 {
-        Self::LETTER
-    }
+    ghost lettered = { refl };
+
+    ghost lawful = { worst_lawful };
 
     fn zero() -> Worst {
         Worst { turn: 0 }
@@ -83,32 +83,29 @@ impl Cost for Worst {
     }
 
     fn compare(self, other: Worst) -> Ordering {
-        self.turn.cmp(&other.turn)
+        self.cmp(&other)
     }
 }
 
 // A keeping cost first, and any second cost, which counts where the firsts are the same.
-#[derive(Clone, Copy)]
+#[derive(Clone, Copy, PartialEq, Eq, Debug)]
 pub struct Pair<A, B> {
     pub first: A,
     pub second: B,
 }
-
-// The letter of a pair. In a generic impl `Self::LETTER` has no known value, and this has.
-const PAIR: u8 = b'P';
 
 impl<A: Keeping, B: Cost> Cost for Pair<A, B> {
     type Price = (A::Price, B::Price);
 
     ghost rules = { pair A.Cost.rules B.Cost.rules };
 
-    const LETTER: u8 = PAIR;
+    const LETTER: u8 = b'P';
+
+    ghost LETTER = { 80 };
+
+    ghost lettered = { refl };
 
     ghost lawful = { pair_lawful A.Cost.rules B.Cost.rules A.Cost.lawful A.Keeping.keeps B.Cost.lawful };
-
-    fn letter_byte() -> u8 {
-        PAIR
-    }
 
     fn zero() -> Pair<A, B> {
         Pair {
@@ -128,6 +125,7 @@ impl<A: Keeping, B: Cost> Cost for Pair<A, B> {
         }
     }
 
+    // A cost orders the reached costs alone, so a pair of costs has no `Ord` to derive.
     fn compare(self, other: Pair<A, B>) -> Ordering {
         self.first
             .compare(other.first)

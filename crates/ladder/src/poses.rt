@@ -20,7 +20,7 @@ pub struct Step {
     pub pose: Pose,
 }
 
-// How far each joint turns in one move.
+// How far each joint turns in one move. A type of its own, though it has the fields of `Limits`, so that neither is taken for the other.
 #[derive(Clone, Copy, PartialEq, Eq, Debug)]
 pub struct Turns {
     pub shoulder: u16,

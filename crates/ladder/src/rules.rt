@@ -1,5 +1,5 @@
 // What a cost is, and what it owes.
-ghost use Rattle.std.specs.Prelude.{◌≡◌};
+ghost use Rattle.std.specs.Prelude.{◌≡◌, ℕ};
 ghost use Rattle.ladder.specs.Rules.{Rules, Lawful, Keeps};
 
 use crate::poses::Turns;
@@ -14,9 +14,14 @@ pub trait Cost: Copy {
     // The letter that stands for the cost in print.
     const LETTER: u8;
 
-    // `LETTER`, as contracts name it: `rules.letter`.
+    ghost LETTER: { ℕ };
+
+    // `LETTER`, where a value is asked for.
     fn letter_byte() -> u8
-        ensures { result ≡ rules.letter };
+        ensures { result ≡ rules.letter }
+    {
+        Self::LETTER
+    }
 
     // The cost of a track of one rung.
     fn zero() -> Self
@@ -30,11 +35,13 @@ pub trait Cost: Copy {
     fn join(self, price: Self::Price) -> Self
         ensures { result ≡ rules.join self price };
 
-    // Which of two costs is the lower.
+    // Which of two costs is the lower. It orders the costs that tracks reach, and owes nothing of others, so it is not `Ord`.
     fn compare(self, other: Self) -> Ordering
         ensures { result ≡ rules.compare self other };
 
     ghost lawful: { Lawful rules };
+
+    ghost lettered: { LETTER ≡ rules.letter };
 }
 
 // A cost of which the lower stays the lower when both are joined with one price.

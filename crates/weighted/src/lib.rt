@@ -1,6 +1,7 @@
 // A cost of its own, made outside the crate of the costs: turns of the shoulder, which carries the whole arm, count three times.
 #![tactic(auto)]
 
+ghost use Rattle.std.specs.Prelude.{refl};
 ghost use Rattle.weighted.specs.Weighing.{weighing};
 ghost use Rattle.weighted.specs.Weighs.{weighing_lawful, weighing_keeps};
 
@@ -12,7 +13,7 @@ use std::cmp::Ordering;
 const SHOULDER: u32 = 3;
 
 // The weighted sum of all turns.
-#[derive(Clone, Copy)]
+#[derive(Clone, Copy, PartialEq, Eq, PartialOrd, Ord, Debug)]
 pub struct Weighted {
     pub total: u32,
 }
@@ -24,11 +25,11 @@ impl Cost for Weighted {
 
     const LETTER: u8 = b'S';
 
-    ghost lawful = { weighing_lawful };
+    ghost LETTER = { 83 };
 
-    fn letter_byte() -> u8 {
-        Self::LETTER
-    }
+    ghost lettered = { refl };
+
+    ghost lawful = { weighing_lawful };
 
     fn zero() -> Weighted {
         Weighted { total: 0 }
@@ -45,7 +46,7 @@ impl Cost for Weighted {
     }
 
     fn compare(self, other: Weighted) -> Ordering {
-        self.total.cmp(&other.total)
+        self.cmp(&other)
     }
 }
 
