@@ -73,18 +73,6 @@ module _ {X : Type 0} (valid : X → Type 0) (before : X → X → Bool) where
           by _ _ _ _ (ap (λ m. get_or ys m d) e ∙ s.0 d) (s.2 k d (omega arith) (omega arith)) (h.0 c k d f g l (omega arith)),
     )
 
-    -- `first_child`
-    pub only_child : (xs : List X) (j c n : ℕ) → c ≡ 2 * j + 1 → c < n → n ≤ c + 1 → Valid valid xs n → Best before xs j c n
-    only_child xs j c n e lo hi v = λ k d a b f. itself xs c k n d lo v (omega arith)
-
-    pub left_child : (xs : List X) (j c n : ℕ) → c ≡ 2 * j + 1 → c < n → ((d : X) → before (get_or xs (c + 1) d) (get_or xs c d) ≡ false) → Valid valid xs n → Best before xs j c n
-    left_child xs j c n e lo t v = λ k d a b f. cases k c (itself xs c k n d lo v)
-        (λ w. let q : k ≡ c + 1 = omega arith in by _ _ _ _ refl (ap (λ m. get_or xs m d) q) (t d))
-
-    pub right_child : (xs : List X) (j c n : ℕ) → c ≡ 2 * j + 1 → c + 1 < n → ((d : X) → before (get_or xs (c + 1) d) (get_or xs c d) ≡ true) → Valid valid xs n → Best before xs j (c + 1) n
-    right_child xs j c n e lo t v = λ k d a b f. cases k (c + 1) (itself xs (c + 1) k n d lo v)
-        (λ w. let q : k ≡ c = omega arith in by _ _ _ _ refl (ap (λ m. get_or xs m d) q) (o.one_way _ _ (v (c + 1) d lo) (v c d (omega arith)) (t d)))
-
     -- the first of a heap is a least one
     top : (xs : List X) (n : ℕ) (d : X) → Stands valid before xs n → (fuel k : ℕ) → k ≤ fuel → k < n → before (get_or xs k d) (get_or xs 0 d) ≡ false
     top xs n d h zero k a b = itself xs 0 k n d (omega arith) h.sound (omega arith)

@@ -6,13 +6,13 @@ use Rattle.heap.proofs.sift_down.Goals as goal
 pub loop-at-init : goal.loop-at-init
 loop-at-init g c = (IsPermutation-refl _, sink_begins _ _ c.args.slots.now)
 
-pub returns-then-not-precedes : goal.returns-then-not-precedes
-returns-then-not-precedes g c =
+pub returns-then-not-precedes-clause-sinks : goal.returns-then-not-precedes-clause-sinks
+returns-then-not-precedes-clause-sinks g c =
     let l = c.loop-at in
     let child = c.first_child-child.result in
     let told = c.first_child-child.ensures in
     let long : length l.slots ≡ length c.args.slots.now = length_permutation _ _ l.invariant.0 in
-    record { same = l.invariant.0; sinks = sink_rests _ _ c.args.slots.now l.slots l.at child (omega arith) told.bound.0 long c.if-not-precedes.ensures told.best l.invariant.1 }
+    sink_rests _ _ c.args.slots.now l.slots l.at child (omega arith) told.bound.0 long c.if-not-precedes.ensures told.best l.invariant.1
 
 pub loop-at-preserved : goal.loop-at-preserved
 loop-at-preserved g c =
@@ -28,8 +28,8 @@ loop-at-preserved g c =
       sink_steps _ _ xs ys zs l.at child told.bound.1 told.bound.2 told.bound.0 long (swapped.by_index.0, swapped.by_index.1, swapped.by_index.2) c.if-not-precedes.ensures told.best l.invariant.1,
     )
 
-pub returns : goal.returns
-returns g c =
+pub returns-clause-sinks : goal.returns-clause-sinks
+returns-clause-sinks g c =
     let l = c.loop-at in
     let long : length l.slots ≡ length c.args.slots.now = length_permutation _ _ l.invariant.0 in
-    record { same = l.invariant.0; sinks = sink_ends _ _ c.args.slots.now l.slots l.at (omega arith) l.invariant.1 }
+    sink_ends _ _ c.args.slots.now l.slots l.at (omega arith) l.invariant.1

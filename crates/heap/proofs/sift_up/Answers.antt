@@ -3,17 +3,14 @@ use Rattle.std.proofs.lemmas.List.Sorted.{IsPermutation-refl, IsPermutation-tran
 use Rattle.heap.proofs.Sifts.{rise_begins, rise_steps, rise_tops, rise_rests}
 use Rattle.heap.proofs.sift_up.Goals as goal
 
-pub returns-then-at-eq0 : goal.returns-then-at-eq0
-returns-then-at-eq0 g c = record { same = IsPermutation-refl _; rises = λ o v h. record { sound = v; heaped = λ p k d lo a b f. absurd (omega arith) } }
-
 pub loop-at-init : goal.loop-at-init
 loop-at-init g c = (omega arith, IsPermutation-refl _, rise_begins _ _ c.args.slots.now _ (omega arith))
 
-pub returns-then-not-precedes : goal.returns-then-not-precedes
-returns-then-not-precedes g c =
+pub returns-then-not-precedes-clause-rises : goal.returns-then-not-precedes-clause-rises
+returns-then-not-precedes-clause-rises g c =
     let l = c.loop-at in
     let up : 0 < l.at = c.loop-at-test.true in
-    record { same = l.invariant.1; rises = rise_rests _ _ c.args.slots.now l.slots ((l.at - 1) / 2) l.at (omega arith) (omega arith) c.if-not-precedes.ensures l.invariant.2 }
+    rise_rests _ _ c.args.slots.now l.slots ((l.at - 1) / 2) l.at (omega arith) (omega arith) c.if-not-precedes.ensures l.invariant.2
 
 pub loop-at-preserved : goal.loop-at-preserved
 loop-at-preserved g c =
@@ -29,7 +26,7 @@ loop-at-preserved g c =
       rise_steps _ _ xs ys zs ((l.at - 1) / 2) l.at (omega arith) (omega arith) (omega arith) (told.by_index.0, told.by_index.1, told.by_index.2) c.if-not-precedes.ensures l.invariant.2,
     )
 
-pub returns : goal.returns
-returns g c =
+pub returns-clause-rises : goal.returns-clause-rises
+returns-clause-rises g c =
     let l = c.loop-at in
-    record { same = l.invariant.1; rises = rise_tops _ _ c.args.slots.now l.slots l.at (omega arith) l.invariant.2 }
+    rise_tops _ _ c.args.slots.now l.slots l.at (omega arith) l.invariant.2

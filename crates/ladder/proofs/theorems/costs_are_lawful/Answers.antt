@@ -1,10 +1,8 @@
-use Rattle.ladder.specs.Laws.{travel_lawful, travel_keeps, worst_lawful, pair_lawful}
+use Rattle.ladder.specs.Laws.{travel_keeps, pair_lawful}
 use Rattle.ladder.proofs.theorems.costs_are_lawful.Goals as goal
 
-pub returns : goal.returns
-returns g c = record {
-  lawful_travel = travel_lawful;
-  keeping_travel = travel_keeps;
-  lawful_worst = worst_lawful;
-  lawful_pair = pair_lawful g.A.Cost.rules g.B.Cost.rules g.met.A.Cost.lawful g.met.A.Keeping.keeps g.met.B.Cost.lawful;
-}
+pub returns-clause-keeping_travel : goal.returns-clause-keeping_travel
+returns-clause-keeping_travel g c = travel_keeps
+
+pub returns-clause-lawful_pair : goal.returns-clause-lawful_pair
+returns-clause-lawful_pair g c = pair_lawful g.A.Cost.rules g.B.Cost.rules g.met.A.Cost.lawful g.met.A.Keeping.keeps g.met.B.Cost.lawful
