@@ -3,6 +3,7 @@
 
 usage: tools/places.py [POINT..]      each point's places with their count; without points, the counts alone
 
+A place is a function, a type or a constant that has a line of the kind looked for, or the top of a file.
 It reads text and judges nothing: a place that it lists may be right as it stands.
 """
 import re
@@ -11,138 +12,133 @@ from collections import defaultdict
 from pathlib import Path
 
 ROOT = Path(__file__).resolve().parent.parent
-FILES = sorted((ROOT / "crates").glob("*/src/**/*.rt"))
-NUMBER_CODES = re.compile(r"=> [0-9]+,$")
-NAMES_FOR_CONVERSIONS = (
-    "number|blank|print|compare|is_before|posed|of_count|of_track|letter_byte|difference|is_err|as_bytes"
-)
+CRATES = ROOT / "crates"
+FILES = sorted(CRATES.glob("*/src/**/*.rt"))
+ITEM = re.compile(r"^\s*(?:pub(?:\([a-z]+\))? )?(?:final )?(fn|struct|enum|const|trait|type) (\w+)")
+IMPL = re.compile(r"^impl(?:<.*?>)? (?:(\w+)(?:<.*>)? for )?&?(\w+)")
 
 
 def lines():
+    """Each line that is no comment and no test, with the item that it belongs to."""
     for path in FILES:
+        owner, item, tests = "", "top", False
         for n, line in enumerate(path.read_text().split("\n"), 1):
-            yield path.relative_to(ROOT / "crates"), n, line
+            tests = tests or line == "mod tests {"
+            m = IMPL.match(line)
+            if m:
+                owner = m.group(2) + "::"
+            elif re.match(r"^\S", line) and not line.startswith("}"):
+                owner = "" if not owner or not line.startswith(" ") else owner
+            m = ITEM.match(line)
+            if m:
+                item = (owner if line.startswith(" ") else "") + m.group(2)
+            if not line.lstrip().startswith("//"):
+                yield path.relative_to(CRATES), n, line, item, tests
 
 
-def matching(*patterns):
-    found = []
-    for path, n, line in lines():
-        if line.lstrip().startswith("//"):
+def places(*patterns, tests=False):
+    """The items with a line that one of the patterns matches: place -> its first such line."""
+    found = {}
+    for path, n, line, item, in_tests in lines():
+        if in_tests and not tests:
             continue
-        for p in patterns:
-            if re.search(p, line):
-                found.append(f"{path}:{n}: {line.strip()}")
-                break
-    return found
+        if any(re.search(p, line) for p in patterns):
+            found.setdefault(f"{path.parts[0]}: {item}", f"{path}:{n}: {line.strip()}")
+    return [f"{place}   ({where})" for place, where in found.items()]
 
 
 def functions():
-    """Each function: file, line, name, parameters, clauses, body."""
+    """Each function outside of tests: its place, parameters, clauses and body."""
     for path in FILES:
         text = path.read_text()
+        text = text.split("#[cfg(test)]\nmod tests {")[0]
         for m in re.finditer(r"^( *)(?:pub(?:\([a-z]+\))? )?(?:final )?fn (\w+)", text, re.M):
             indent = m.group(1)
-            end = re.compile(r"(^" + indent + r"\}$)|(^" + indent + r"\{\}$)|(;\n)", re.M).search(text, m.end())
-            whole = text[m.start() : end.end() if end else len(text)]
-            head, brace, body = whole.partition("\n" + indent + "{\n")
-            if not brace and whole.split("\n")[0].rstrip().endswith("{"):
-                head, body = whole.split("\n", 1)[0], whole.split("\n", 1)[1]
-            inside = re.search(r"\((.*?)\)(?: ->|\n|$| \{)", head, re.S)
+            end = re.search(rf"^{indent}(\}}|\{{\}})$|;\n", text[m.end() :], re.M)
+            whole = text[m.start() : m.end() + end.end()] if end else text[m.start() :]
+            head, _, body = whole.partition(f"\n{indent}{{\n")
+            if not body and whole.split("\n")[0].endswith("{"):
+                head, _, body = whole.partition("\n")
+            inside = re.search(r"\((.*?)\)(?= ->|\n|$| \{|;)", head, re.S)
             params = re.sub(r"\s+", " ", inside.group(1)) if inside else ""
             clauses = re.findall(r"^\s*(?:requires|ensures)\*? ?(?:\w+ )?\{(.*)\}$", head, re.M)
-            yield path.relative_to(ROOT / "crates"), text[: m.start()].count("\n") + 1, m.group(2), params, clauses, body
+            yield f"{path.relative_to(CRATES).parts[0]}: {m.group(2)}", params, clauses, body
 
 
 def shape(body):
     body = re.sub(r"//.*", "", body)
     body = re.sub(r"b?'[^']*'|\"[^\"]*\"|\b[0-9_]+\b", "0", body)
-    body = re.sub(r"\b(?!if\b|else\b|return\b|let\b|mut\b|for\b|in\b|match\b|while\b|Some\b|None\b|Ok\b|Err\b|self\b)[A-Za-z_]\w*\b", "x", body)
-    return re.sub(r"\s+", " ", body).strip()
+    kept = "if|else|return|let|mut|for|in|match|while|Some|None|Ok|Err|self"
+    return re.sub(r"\s+", " ", re.sub(rf"\b(?!(?:{kept})\b)[A-Za-z_]\w*\b", "x", body)).strip()
 
 
 def twins():
-    groups = defaultdict(list)
-    for path, n, name, params, clauses, body in functions():
-        s = shape(body)
-        if len(s) >= 24 and name not in ("main",) and "tests" not in str(path):
-            groups[s].append(f"{path}:{n}: fn {name}")
-    structs = defaultdict(list)
+    """Functions whose bodies have one shape, and structs whose fields have the same names."""
+    alike = defaultdict(list)
+    for place, _, _, body in functions():
+        if len(shape(body)) >= 24 and not place.endswith(": main"):
+            alike[shape(body)].append(place)
     for path in FILES:
-        text = path.read_text()
-        for m in re.finditer(r"^(?:pub(?:\([a-z]+\))? )?struct (\w+)[^\n]*\{\n(.*?)^\}", text, re.M | re.S):
-            fields = tuple(re.findall(r"^\s*(?:pub(?:\([a-z]+\))? )?(\w+): ", re.sub(r"ghost .*", "", m.group(2)), re.M))
-            structs[fields].append(f"{path.relative_to(ROOT / 'crates')}:{text[: m.start()].count(chr(10)) + 1}: struct {m.group(1)} {{ {', '.join(fields)} }}")
-    found = []
-    for g in list(groups.values()) + list(structs.values()):
-        if len(g) > 1:
-            found += [f"{p}   (with {len(g) - 1} more alike)" for p in g]
-    return found
-
-
-def clause_shape(c):
-    return re.sub(r"\s+", " ", re.sub(r"\.(old|new|now|entry|exit)\b", "", c)).strip()
+        for m in re.finditer(r"^(?:pub(?:\([a-z]+\))? )?struct (\w+)[^\n]*\{\n(.*?)^\}", path.read_text(), re.M | re.S):
+            fields = re.findall(r"^\s*(?:pub(?:\([a-z]+\))? )?(\w+): ", m.group(2), re.M)
+            alike[", ".join(fields)].append(f"{path.relative_to(CRATES).parts[0]}: struct {m.group(1)}")
+    return [f"{p}   (with {', '.join(q for q in g if q is not p)})" for g in alike.values() if len(g) > 1 for p in g]
 
 
 def repeated_facts():
-    facts = defaultdict(set)
-    for path, n, name, params, clauses, body in functions():
-        for c in clauses:
-            for part in re.split(r" × |[()]", c):
-                part = clause_shape(part)
-                if len(part) >= 8 and re.search(r"[≤<]|Bounds|≡", part) or re.fullmatch(r"[A-Z]\w+ \w+", part or ""):
-                    facts[part].add(f"{path}:{n}: fn {name}")
-    return [f"`{f}` in {len(where)} functions: {', '.join(sorted(w.split('fn ')[1] for w in where))}" for f, where in sorted(facts.items()) if len(where) >= 3]
-
-
-def params_together():
-    pairs = defaultdict(set)
-    for path, n, name, params, clauses, body in functions():
-        ps = [p.strip() for p in re.split(r",(?![^<\[(]*[>\])])", params) if ":" in p]
-        ps = [re.sub(r"^mut ", "", p) for p in ps]
-        for i, a in enumerate(ps):
-            for b in ps[i + 1 :]:
-                pairs[(a, b)].add(f"{str(path).split('/')[0]}::{name}")
-    return [f"`{a}` with `{b}` in {len(w)} functions: {', '.join(sorted(w))}" for (a, b), w in sorted(pairs.items()) if len(w) >= 3]
+    """Facts that the clauses of three or more functions state of one value, and parameters that three or more functions take together."""
+    facts, together = defaultdict(set), defaultdict(set)
+    for place, params, clauses, _ in functions():
+        for clause in clauses:
+            for part in re.split(r" × |[()]", re.sub(r"\.(old|new|now|entry|exit)\b", "", clause)):
+                part = re.sub(r"\s+", " ", part).strip()
+                if re.search(r"\w [≤<] \w", part) or re.fullmatch(r"[A-Z]\w+ \w+", part):
+                    facts[part].add(place)
+        names = [re.sub(r"^mut ", "", p.strip()) for p in re.split(r",(?![^<\[(]*[>\])])", params) if ":" in p]
+        for i, a in enumerate(names):
+            for b in names[i + 1 :]:
+                together[f"{a}, {b}"].add(place)
+    both = [(f"fact `{f}`", w) for f, w in facts.items()] + [(f"parameters `{p}`", w) for p, w in together.items()]
+    return [f"{what}   ({len(w)}: {', '.join(sorted(w))})" for what, w in sorted(both) if len(w) >= 3]
 
 
 def answers():
-    files = sorted((ROOT / "crates").glob("*/proofs/**/Answers.antt"))
-    return [f"{f.relative_to(ROOT / 'crates')}: {len(f.read_text().split(chr(10))) - 1} lines" for f in files]
+    files = sorted(CRATES.glob("*/proofs/**/Answers.antt"))
+    blocks = [(f, re.findall(r"^pub (\S+) : goal\.", f.read_text(), re.M)) for f in files]
+    return [f"{f.relative_to(CRATES).parent}: {b}" for f, found in blocks for b in found]
 
 
 POINTS = {
-    "1": lambda: matching(
-        r"^\s*(pub(\([a-z]+\))? )?enum ",
-        r"^\s*(pub(\([a-z]+\))? )?\w+: bool,",
-        r"=> [0-9]+,$",
-        r"fn \w+\(\) -> u8$",
-        r"& \w+ [!=]= 0",
-        r"\bNone => None\b|\bNone => 0\b|\bNone => return\b|=> Ok\(\w+\),|else \{$",
+    "1": lambda: places(
+        r"^\s*(pub(\([a-z]+\))? )?enum ",  # own enums
+        r"^\s*(pub(\([a-z]+\))? )?\w+: bool,",  # flags
+        r"=> [0-9]+,$",  # a number for each case
+        r"fn \w+\(\) -> u8$",  # a number that means nothing
+        r"& \w+ [!=]= 0",  # kinds as bits
+        r"\bNone => (None|0|return)\b|=> Ok\(\w+\),|=> Err\(",  # an Option or a Result taken apart and put together again
     ),
     "2": twins,
-    "3": lambda: matching(r"\bwhile\b", r"\bfor \w+ in .*\.\.", r"\bloop\b"),
-    "4": lambda: matching(
+    "3": lambda: places(r"\bwhile\b", r"\bfor \w+ in .*\.\.", r"\bloop\b", r"\w+ \+= 1;"),
+    "4": lambda: places(
         r"^\s*impl.* (PartialEq|Eq|PartialOrd|Ord|Clone|Copy|Display|Debug|Default|From|TryFrom)(<.*>)? for ",
-        rf"\bfn ({NAMES_FOR_CONVERSIONS})\b",
-        r"^\s*(\w+): \w+(\.\w+)*\.\1(,| as )",
-        r"text\.(byte|number)\(|spaced\(",
+        r"\bfn (number|blank|print|compare|is_before|posed|of_count|of_track|letter_byte)\b",
+        r"^\s*(\w+): \w+(\.\w+)*\.\1(,| as )",  # a field copied to its namesake
+        r"text\.(byte|number)\(",
     ),
-    "5": lambda: repeated_facts() + params_together(),
-    "6": lambda: matching(r"\[[A-Za-z_]\w*(<.*>)?; ?\w+\]", r"^\s*(pub(\([a-z]+\))? )?len: (usize|u16)", r": &'\w+ mut \["),
-    "7": lambda: matching(r"\bfn\(", r"\bdyn\b", r"\bstep\b.*=>"),
+    "5": repeated_facts,
+    "6": lambda: places(r"\[[A-Za-z_]\w*(<.*>)?; ?\w+\]", r"^\s*(pub(\([a-z]+\))? )?len: (usize|u16)", r"^\s*(pub(\([a-z]+\))? )?\w+: &'\w+ mut \["),
+    "7": lambda: places(r"\bfn\(", r"\bdyn\b"),
     "8": answers,
 }
 
 
 def main():
     wanted = sys.argv[1:]
-    for point in POINTS:
-        if wanted and point not in wanted:
-            continue
-        found = POINTS[point]()
-        print(f"point {point}: {len(found)}")
-        if wanted:
-            for f in found:
+    for point, find in POINTS.items():
+        if not wanted or point in wanted:
+            found = find()
+            print(f"point {point}: {len(found)}")
+            for f in found if wanted else []:
                 print("  " + f)
 
 

@@ -1,5 +1,5 @@
 -- Finding the next rank at a pose keeps what the tables stand for. Assumes nothing.
-use Rattle.std.specs.Prelude.{◌≡◌, ℕ, zero, suc, ◌+◌, ◌<◌, ◌≤◌, true, cond, ◌⊎◌, length, nat_lt}
+use Rattle.std.specs.Prelude.{◌≡◌, ℕ, zero, suc, ◌+◌, ◌<◌, ◌≤◌, true, MatchBool, ◌⊎◌, length, nat_lt}
 use Rattle.ladder.specs.declared.poses.Limits.{Limits}
 use Rattle.ladder.specs.Rules.{Rules}
 use Rattle.ladder.specs.Tracks.{Bounded}
@@ -19,7 +19,7 @@ module _ {C P : Type 0} (c : Rules C P) (l : Limits) (w : ℕ) (t m : Tables C) 
   -- the pending successor at pose v of rung p + 1 is entered if the track that it extends is found: that one follows the front of the last found track
   abbrev pub EntersPending : ℕ → ℕ → Type 0
   EntersPending p v =
-      cond (nat_lt ((last_back t (suc p) v).rank.0 + 1) (t.station p (last_back t (suc p) v).pose.0).found)
+      MatchBool (nat_lt ((last_back t (suc p) v).rank.0 + 1) (t.station p (last_back t (suc p) v).pose.0).found)
       (Enters c w t m l p v (t.track p (t.track (suc p) (t.station (suc p) v).last.0).front.0).after.0)
       (Unchanged w t m)
 

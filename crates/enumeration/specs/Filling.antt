@@ -1,5 +1,5 @@
 -- Adding a rung keeps what the tables stand for: its poses are written, then the first track at each is found, pose by pose. Assumes nothing.
-use Rattle.std.specs.Prelude.{◌≡◌, ℕ, zero, suc, ◌<◌, ◌≤◌, false, cond, ◌∷◌, length, take, ◌≢◌, nat_le, nat_lt, slice_index_or}
+use Rattle.std.specs.Prelude.{◌≡◌, ℕ, zero, suc, ◌<◌, ◌≤◌, false, if◌then◌else◌, MatchBool, ◌∷◌, length, take, ◌≢◌, nat_le, nat_lt, slice_index_or}
 use Rattle.std.specs.List.{AllByRecursion}
 use Rattle.ladder.specs.declared.poses.Pose.{Pose}
 use Rattle.ladder.specs.declared.poses.Limits.{Limits}
@@ -47,7 +47,7 @@ module _ {C P : Type 0} (c : Rules C P) (l : Limits) (w : ℕ) where
   -- the first track at pose u of rung p, if one is found, is entered as a candidate at pose v of rung p + 1
   abbrev pub EntersFirst : ℕ → ℕ → ℕ → Tables C → Tables C → Type 0
   EntersFirst p v u t m =
-      cond (nat_lt 0 (t.station p u).found) (Enters c w t m l p v (t.station p u).last.0) (Unchanged w t m)
+      MatchBool (nat_lt 0 (t.station p u).found) (Enters c w t m l p v (t.station p u).last.0) (Unchanged w t m)
 
   -- the first track at pose v of rung r is found: above the first rung, the first track of each pose before is entered, then the least is drawn
   abbrev pub Settles : ℕ → ℕ → Tables C → Tables C → Type 0
@@ -67,7 +67,7 @@ pub record Fresh {C : Type 0} (t : Tables C) (r : ℕ) : Type 0 where
 
 -- 1 at pose u and at every pose after it
 abbrev pub from_on : ℕ → ℕ → ℕ
-from_on u x = cond (nat_le u x) 1 0
+from_on u x = if nat_le u x then 1 else 0
 
 module _ {C P : Type 0} (c : Rules C P) (l : Limits) (t : Tables C) where
   -- the first n rungs are sound, as they are before any track is taken

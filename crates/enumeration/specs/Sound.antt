@@ -1,5 +1,5 @@
 -- What the tables of a resolver stand for: of each pose the first tracks by rank, and the candidates for the next. Assumes nothing.
-use Rattle.std.specs.Prelude.{◌≡◌, ℕ, zero, suc, ◌+◌, ◌<◌, ◌≤◌, true, false, cond, List, [], ◌∷◌, length, take, slice_index_or}
+use Rattle.std.specs.Prelude.{◌≡◌, ℕ, zero, suc, ◌+◌, ◌<◌, ◌≤◌, true, false, if◌then◌else◌, List, [], ◌∷◌, length, take, slice_index_or}
 use Rattle.std.specs.List.{AllByRecursion}
 use Rattle.ladder.specs.declared.poses.Limits.{Limits}
 use Rattle.ladder.specs.Rules.{Rules}
@@ -23,7 +23,7 @@ module _ {C : Type 0} (t : Tables C) where
 
   -- 1 at the pose whose next track has yet to be entered at pose v of rung r, if there is one
   abbrev pub due_at : ℕ → ℕ → ℕ → ℕ
-  due_at r v = cond (t.station r v).pending (only_at (last_back r v).pose.0) nowhere
+  due_at r v = if (t.station r v).pending then only_at (last_back r v).pose.0 else nowhere
 
 module _ {C P : Type 0} (c : Rules C P) (l : Limits) (t : Tables C) where
   -- the tracks of the first r + 1 rungs that end at pose v, by rank
@@ -49,7 +49,7 @@ module _ {C P : Type 0} (c : Rules C P) (l : Limits) (t : Tables C) where
   pub record CandidatesSound (p v : ℕ) (used : ℕ → ℕ) : Type 0 where
     pub so_far : FoundSoFar c l (poses t (suc p)) (poses t p) (ladder t p) v (t.station (suc p) v).found used (due_at t (suc p) v) (t.slots (suc p) v) (t.station (suc p) v).waiting
     pub lie : AllByRecursion (λ x. Lies t p x.back.pose.0 x.back.rank.0 x.place.0) (take (t.station (suc p) v).waiting (t.slots (suc p) v))
-    pub room : (t.station (suc p) v).waiting + cond (t.station (suc p) v).pending 1 0 ≤ t.size p
+    pub room : (t.station (suc p) v).waiting + (if (t.station (suc p) v).pending then 1 else 0) ≤ t.size p
     pub pending : (t.station (suc p) v).pending ≡ true → (0 < (t.station (suc p) v).found) × (used (last_back t (suc p) v).pose.0 ≡ (last_back t (suc p) v).rank.0 + 1)
     pub settled : (t.station (suc p) v).pending ≡ false → length (ends (suc p) v) ≤ (t.station (suc p) v).found
 

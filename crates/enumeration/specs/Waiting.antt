@@ -1,5 +1,5 @@
 -- Candidates as the tables hold them. Assumes nothing.
-use Rattle.std.specs.Prelude.{Bool, cond, Some, None, Option}
+use Rattle.std.specs.Prelude.{Bool, if◌then◌else◌, Some, None, Option}
 use Rattle.std.specs.Ordering.{is_lt}
 use Rattle.ladder.specs.declared.poses.Pose.{Pose}
 use Rattle.ladder.specs.declared.poses.Limits.{Limits}
@@ -29,4 +29,4 @@ module _ {C P : Type 0} (r : Rules C P) where
 
   -- the same, where the move is admissible
   abbrev pub extended : Limits → Pose → Pose → Ranked C → Place → Option (Candidate C)
-  extended l p q e at = cond (within l (turns p q)) (Some (extension_of p q e at)) None
+  extended l p q e at = if within l (turns p q) then Some (extension_of p q e at) else None

@@ -1,5 +1,5 @@
 -- The candidates that wait at one pose. Assumes nothing.
-use Rattle.std.specs.Prelude.{◌≡◌, ℕ, ◌+◌, ◌<◌, ◌≤◌, cond, List, [], ◌∷◌, length, take, sum_by, Option, MatchOption, ◌==◌, slice_index_or}
+use Rattle.std.specs.Prelude.{◌≡◌, ℕ, ◌+◌, ◌<◌, ◌≤◌, if◌then◌else◌, List, [], ◌∷◌, length, take, sum_by, Option, MatchOption, ◌==◌, slice_index_or}
 use Rattle.std.specs.List.{AllByRecursion}
 use Rattle.heap.specs.Order.{Stands}
 use Rattle.ladder.specs.declared.poses.Limits.{Limits}
@@ -15,11 +15,11 @@ origin_of x = x.back.pose.0
 
 -- 1 for a candidate that comes from pose u
 abbrev pub from : {C : Type 0} → ℕ → Candidate C → ℕ
-from u x = cond (origin_of x == u) 1 0
+from u x = if origin_of x == u then 1 else 0
 
 -- 1 at pose w, and 0 at every other
 abbrev pub only_at : ℕ → ℕ → ℕ
-only_at w u = cond (w == u) 1 0
+only_at w u = if w == u then 1 else 0
 
 -- 0 at every pose
 abbrev pub nowhere : ℕ → ℕ

@@ -1,5 +1,5 @@
 -- What the small steps write. Assumes nothing.
-use Rattle.std.specs.Prelude.{◌≡◌, ℕ, zero, suc, ◌+◌, ◌<◌, ◌≤◌, Bool, true, cond, List, Some, None, MatchBool, Option, ◌≢◌, nat_lt, slice_index_or}
+use Rattle.std.specs.Prelude.{◌≡◌, ℕ, zero, suc, ◌+◌, ◌<◌, ◌≤◌, Bool, true, if◌then◌else◌, List, Some, None, MatchBool, Option, ◌≢◌, nat_lt, slice_index_or}
 use Rattle.ladder.specs.declared.poses.PoseNumber.{PoseNumber}
 use Rattle.ladder.specs.declared.poses.Limits.{Limits}
 use Rattle.ladder.specs.Rules.{Rules}
@@ -30,7 +30,7 @@ module _ {C : Type 0} (t : Tables C) where
   -- the last rank at pose v of rung r, where the successor of its front has yet to be entered
   abbrev pub pending_at : ℕ → ℕ → Option (Ranked C)
   pending_at zero v = None
-  pending_at (suc p) v = cond (t.station (suc p) v).pending (Some (t.track (suc p) (t.station (suc p) v).last.0)) None
+  pending_at (suc p) v = if (t.station (suc p) v).pending then Some (t.track (suc p) (t.station (suc p) v).last.0) else None
 
   -- the track after the one that the last rank at pose v of rung p + 1 extends is found
   abbrev pub successor_found : ℕ → ℕ → Bool
@@ -39,7 +39,7 @@ module _ {C : Type 0} (t : Tables C) where
   -- the pose of the rung before whose next rank pose v of rung r waits for, if that rank is not found
   abbrev pub needed_at : ℕ → ℕ → Option PoseNumber
   needed_at zero v = None
-  needed_at (suc p) v = cond (t.station (suc p) v).pending (cond (successor_found p v) None (Some (last_back t (suc p) v).pose)) None
+  needed_at (suc p) v = if (t.station (suc p) v).pending then (if successor_found p v then None else Some (last_back t (suc p) v).pose) else None
 
   -- path leads from pose v of rung r down to rung low: on each rung stands the pose that the one above waits for
   pub record PathDown (r : ℕ) (v : PoseNumber) (path : List PoseNumber) (low : ℕ) : Type 0 where
@@ -102,7 +102,7 @@ module _ {C : Type 0} (w : ℕ) (t m : Tables C) where
 
   -- the last found track at a pose of rung r, whose station is s, leads to place i, if one is found, and nothing else changed
   abbrev pub Links : ℕ → Station → ℕ → Type 0
-  Links r s i = cond (nat_lt 0 s.found) (TrackPut r s.last.0 (linked (t.track r s.last.0) i)) (Unchanged w t m)
+  Links r s i = MatchBool (nat_lt 0 s.found) (TrackPut r s.last.0 (linked (t.track r s.last.0) i)) (Unchanged w t m)
 
   -- the track that candidate x stands for is appended as the next rank at pose v of rung r, whose station was s, and nothing else changed
   pub record Appends (r v : ℕ) (s : Station) (x : Candidate C) : Type 0 where

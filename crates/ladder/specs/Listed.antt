@@ -1,5 +1,5 @@
 -- The order of a ladder's tracks, and the list of a ladder. Assumes nothing.
-use Rattle.std.specs.Prelude.{◌≡◌, ℕ, zero, suc, ◌<◌, ◌≤◌, cond, ◌⊎◌, List, [], ◌∷◌, ◌++◌, map, length, filter, slice_index_or}
+use Rattle.std.specs.Prelude.{◌≡◌, ℕ, zero, suc, ◌<◌, ◌≤◌, if◌then◌else◌, ◌⊎◌, List, [], ◌∷◌, ◌++◌, map, length, filter, slice_index_or}
 use Rattle.std.specs.declared.cmp.Ordering.TheVariants.{Less, Equal}
 use Rattle.std.specs.declared.cmp.Ordering.{Ordering}
 use Rattle.std.specs.Ordering.{is_lt, ordering_then, nat_cmp}
@@ -36,7 +36,7 @@ pub record ListOf {V P : Type 0} (c : Rules V P) (l : Limits) (rs : Ladder) (ts 
 -- x put into a list before the first element that it is below
 abbrev pub placed_in : {X : Type 0} → (X → X → Ordering) → X → List X → List X
 placed_in cmp x [] = x ∷ []
-placed_in cmp x (y ∷ ys) = cond (is_lt (cmp x y)) (x ∷ y ∷ ys) (y ∷ placed_in cmp x ys)
+placed_in cmp x (y ∷ ys) = if is_lt (cmp x y) then x ∷ y ∷ ys else y ∷ placed_in cmp x ys
 
 -- a list sorted by insertion
 abbrev pub sorted : {X : Type 0} → (X → X → Ordering) → List X → List X

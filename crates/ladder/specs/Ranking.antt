@@ -1,5 +1,5 @@
 -- The tracks that end at one pose, by rank, and how they come from those of the rung before. Assumes nothing.
-use Rattle.std.specs.Prelude.{◌≡◌, ℕ, suc, ◌<◌, ◌≤◌, Bool, true, cond, ◌↔◌, List, [], ◌∷◌, length, filter, ◌==◌, nat_eq, slice_index, slice_index_or}
+use Rattle.std.specs.Prelude.{◌≡◌, ℕ, suc, ◌<◌, ◌≤◌, Bool, true, if◌then◌else◌, ◌↔◌, List, [], ◌∷◌, length, filter, ◌==◌, nat_eq, slice_index, slice_index_or}
 use Rattle.std.specs.declared.cmp.Ordering.{Ordering}
 use Rattle.std.specs.Ordering.{is_le, ordering_then, nat_cmp}
 use Rattle.ladder.specs.declared.poses.Limits.{Limits}
@@ -43,7 +43,7 @@ candidate c l r rs v u i = record {
 
 -- one more used of w
 abbrev pub bumped : (ℕ → ℕ) → ℕ → ℕ → ℕ
-bumped used w u = cond (u == w) (suc (used u)) (used u)
+bumped used w u = if u == w then suc (used u) else used u
 
 -- for pose v of the last rung r, which follows rung q; `used u` counts the tracks at pose u of rung q that are used
 module _ {V P : Type 0} (c : Rules V P) (l : Limits) (r q : Rung) (rs : Ladder) (v : ℕ) where
