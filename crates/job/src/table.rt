@@ -48,7 +48,7 @@ fn row_of(mut fields: Record, before: Position) -> Row
 pub(crate) fn read_rows(records: &mut Records, rows: &mut [Row]) -> Result<u16, Fault>
     requires few { records.old.left ≤ 128 }
     requires room { length rows.old ≡ 128 }
-    ensures reads { answer (λ n. map (row_v records.old.file.now) (take n rows.new)) result records.new.cursor.at ≡ via (waypoints origin) (many records.old.left entry) records.old.file.now records.old.cursor.at }
+    ensures reads { answer (λ n. map (row_v records.old.cursor.file.now) (take n rows.new)) result records.new.cursor.at ≡ via (waypoints origin) (many records.old.left entry) records.old.cursor.file.now records.old.cursor.at }
 {
     let mut n: u16 = 0;
     let mut before = Position { x: 0, y: 0 };

@@ -7,9 +7,9 @@ use Rattle.job.proofs.table.read_rows.Given as goal
 -- what is read, and then what is left to read, is the whole
 abbrev pub invariant-loop-fields : goal.invariant-loop-fields
 invariant-loop-fields l =
-    (rest origin l.initial.records.left l.initial.records.file.now l.initial.records.cursor.at
-    ≡ prepend (map (row_v l.initial.records.file.now) (take l.n l.rows)) (rest l.before l.records.left l.initial.records.file.now l.records.cursor.at))
-    × (l.records.file ≡ l.initial.records.file)
+    (rest origin l.initial.records.left l.initial.records.cursor.file.now l.initial.records.cursor.at
+    ≡ prepend (map (row_v l.initial.records.cursor.file.now) (take l.n l.rows)) (rest l.before l.records.left l.initial.records.cursor.file.now l.records.cursor.at))
+    × (l.records.cursor.file ≡ l.initial.records.cursor.file)
     × (l.n + l.records.left ≤ 128)
 
 abbrev pub decreases-loop-fields : goal.decreases-loop-fields
