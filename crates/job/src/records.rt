@@ -1,5 +1,6 @@
 ghost use Rattle.std.specs.Prelude.{◌≡◌, ℕ, ◌+◌, ◌<◌, length, IfSome, IfOk, nat_lt};
 ghost use Rattle.std.specs.Option.{option_map};
+ghost use Rattle.std.specs.Iterator.{YieldsFirstBy, item_count};
 ghost use Rattle.job.specs.Reading.{opt, poses, note, entry, entry_fields};
 ghost use Rattle.job.specs.Bytes.{poses_of_bytes};
 ghost use Rattle.job.specs.Outcomes.{Next};
@@ -150,5 +151,17 @@ impl<'a> Record<'a> {
             return Some(Field::Note(part));
         }
         None
+    }
+}
+
+impl<'a> Iterator for Record<'a> {
+    type Item = Field<'a>;
+
+    ghost next_gives = { YieldsFirstBy field_v unhanded };
+
+    ghost remaining = { item_count unhanded };
+
+    fn next(&mut self) -> Option<Field<'a>> {
+        self.next_field()
     }
 }

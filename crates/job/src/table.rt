@@ -30,18 +30,15 @@ impl Row {
 }
 
 // The row of a record that follows one at the position before.
-fn row_of(mut fields: Record, before: Position) -> Row
+fn row_of(fields: Record, before: Position) -> Row
     ensures { (s : List ℕ) → IfSome fields.entry.poses (Lies s) → row_v s result ≡ waypoint before (record_v fields.entry) }
 {
-    let mut row = Row {
+    let row = Row {
         position: before,
         place: 0,
         size: 0,
     };
-    while let Some(field) = fields.next_field() {
-        row = row.with(field);
-    }
-    row
+    fields.fold(row, Row::with)
 }
 
 // Reads the records into rows, one for each, and answers how many there are.
