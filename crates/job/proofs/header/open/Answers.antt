@@ -1,4 +1,4 @@
-use Rattle.std.proofs.Common.{◌≡◌, Ok, refl, rules}
+use Rattle.std.proofs.Common.{◌≡◌, Ok, rules}
 use Rattle.job.specs.Reading.{got, heading}
 use Rattle.job.specs.Views.{opened, head_v}
 use Rattle.job.proofs.Steps.{open_law}

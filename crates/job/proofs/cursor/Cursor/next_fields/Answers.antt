@@ -1,4 +1,4 @@
-use Rattle.std.proofs.Common.{◌≡◌, Ok, rules}
+use Rattle.std.proofs.Common.{Ok, rules}
 use Rattle.std.specs.Option.{option_map}
 use Rattle.job.specs.Bytes.{poses_of_bytes, stands}
 use Rattle.job.specs.Reading.{opt, signed, poses, note}

@@ -1,7 +1,4 @@
-use Rattle.std.proofs.Common.{◌≡◌, ltb, Some, Ok, rules}
-use Rattle.std.specs.Option.{option_map}
-use Rattle.job.specs.Reading.{got, opt, entry}
-use Rattle.job.specs.Views.{answer, record_v}
+use Rattle.std.proofs.Common.{Some, Ok, rules}
 use Rattle.job.proofs.Steps.{next_law}
 use Rattle.job.proofs.records.Records.next_record.Goals as goal
 
