@@ -1,23 +1,17 @@
--- What the rows of a job's table, and the bytes of a pose list, say.
-use Rattle.std.proofs.Common.{◌≡◌, ℕ, zero, suc, ◌+◌, ◌-◌, ◌*◌, ◌/◌, ◌<◌, ◌≤◌, min, List, [], map, length, get_or, take, drop, Some, None, sym, ap, ◌∙◌, ⊎_elim, arith}
-use Rattle.std.proofs.lemmas.List.{length-map, length-take, get_or-map, get_or-take, take_all, drop_all, length-drop}
-use Rattle.std.proofs.lemmas.Option.{slice_get-get_or, slice_get_past}
-use Rattle.std.proofs.lemmas.Bool.{cases_lt}
+-- What a job's table, and the bytes of a pose list, say.
+use Rattle.std.proofs.Common.{◌≡◌, ℕ, zero, suc, ◌+◌, ◌*◌, ◌/◌, ◌<◌, ◌≤◌, List, [], length, get_or, take, drop, Some, None, refl, ap, ◌∙◌, w16, to_z, arith}
+use Rattle.std.proofs.lemmas.List.{length-take-le, drop-drop, get_or-take, get_or-drop}
+use Rattle.std.proofs.lemmas.Option.{slice_get_past}
 use Rattle.std.specs.List.{slice_get}
-use Rattle.job.specs.declared.rows.Row.{Row}
-use Rattle.job.specs.Bytes.{pose_at, poses_at, poses_of_bytes}
-use Rattle.job.specs.Rows.{row_v}
+use Rattle.std.specs.Simd.{first_chunks}
+use Rattle.job.specs.Bytes.{word_at, pose_at, poses_at, poses_of_bytes}
+use Rattle.job.specs.declared.rows.Table.{Table}
+use Rattle.job.specs.Rows.{in_use}
 use Rattle.job.proofs.Basics.{length_poses}
 
-pub rows_used : (s : List ℕ) (table : List Row) (n : ℕ) → length (map (row_v s) (take n table)) ≡ min n (length table)
-rows_used s table n = length-map (take n table) (row_v s) ∙ length-take n table
-
-pub row_at : (s : List ℕ) (table : List Row) (n w : ℕ) (d : Row) → w < n → w < length table → slice_get (map (row_v s) (take n table)) w ≡ Some (row_v s (get_or table w d))
-row_at s table n w d l h =
-    let u : w < length (take n table) = omega (arith, length-take n table) in
-    let k : w < length (map (row_v s) (take n table)) = omega (arith, length-map (take n table) (row_v s)) in
-    slice_get-get_or (map (row_v s) (take n table)) w (row_v s d) k
-    ∙ ap Some (get_or-map (row_v s) (take n table) w d (row_v s d) u ∙ ap (row_v s) (get_or-take n table w d l))
+-- as many rows are in use as the table says
+pub used : (t : Table) → length (in_use t) ≡ t.len
+used t = length-take-le t.len t.rows (omega (arith, t.size, t.fits))
 
 pose_from : (s : List ℕ) (p n j : ℕ) → j < n → slice_get (poses_at s p n) j ≡ Some (pose_at s (p + 4 * j))
 pose_from s p zero j h = absurd (omega arith)
@@ -33,22 +27,19 @@ pose_is_at l j h = let e : 0 + 4 * j ≡ 4 * j = omega arith in pose_from l 0 (l
 pub pose_past : (l : List ℕ) (j : ℕ) → length l / 4 ≤ j → slice_get (poses_of_bytes l) j ≡ None
 pose_past l j h = slice_get_past (poses_of_bytes l) j (omega (arith, length_poses l 0 (length l / 4)))
 
--- as many of some bytes as there are
-take_min : (l : List ℕ) (n k : ℕ) → k ≡ min n (length l) → take k l ≡ take n l
-take_min l n k e = ⊎_elim
-    (λ h. ap (λ m. take m l) (let f : k ≡ n = omega arith in f))
-    (λ h. take_all k l (omega arith) ∙ sym (take_all n l h))
-    (cases_lt n (length l))
+-- the chunks of four bytes that make the poses
+chunk_at : (n : ℕ) (l : List ℕ) (j : ℕ) → j < n → get_or (first_chunks 4 n l) j [] ≡ take 4 (drop (4 * j) l)
+chunk_at zero l j h = absurd (omega arith)
+chunk_at (suc n) l zero h = refl
+chunk_at (suc n) l (suc j) h =
+    let e : 4 + 4 * j ≡ 4 * suc j = omega arith in
+    chunk_at n (drop 4 l) j (omega arith) ∙ ap (take 4) (drop-drop (4 * j) 4 l ∙ ap (λ k. drop k l) e)
 
--- the bytes from a place on, cut at the end of the file
-pub cut : (s : List ℕ) (p n a k m : ℕ) → a ≡ min p (length s) → k ≡ min n (length s - a) → m ≡ k → take m (drop a s) ≡ take n (drop p s)
-cut s p n a k m ea ek em = ⊎_elim
-    (λ h.
-    let f : a ≡ p = omega arith in
-    let g : m ≡ min n (length (drop p s)) = omega (arith, length-drop p s) in
-    ap (λ i. take m (drop i s)) f ∙ take_min (drop p s) n m g)
-    (λ h.
-    let f : length s ≤ a = omega arith in
-    let g : m ≡ 0 = omega arith in
-    ap (λ i. take i (drop a s)) g ∙ sym (ap (take n) (drop_all p s h) ∙ take_all n [] (omega arith)))
-    (cases_lt p (length s))
+-- a chunk is read as the pose at its place
+pub chunk_pose : (l t : List ℕ) (n j : ℕ) → j < n → t ≡ get_or (first_chunks 4 n l) j [] → pose_at t 0 ≡ pose_at l (4 * j)
+chunk_pose l t n j h e =
+    let reads : (i p : ℕ) → i < 4 → 4 * j + i ≡ p → get_or t i 0 ≡ get_or l p 0 =
+    λ i p k q. ap (λ c. get_or c i 0) (e ∙ chunk_at n l j h) ∙ get_or-take 4 (drop (4 * j) l) i 0 k ∙ get_or-drop (4 * j) l i 0 ∙ ap (λ m. get_or l m 0) q in
+    let first : word_at t 0 ≡ word_at l (4 * j) = omega (arith, reads 0 (4 * j) (omega arith) (omega arith), reads 1 (4 * j + 1) (omega arith) (omega arith)) in
+    let second : word_at t 2 ≡ word_at l (4 * j + 2) = omega (arith, reads 2 (4 * j + 2) (omega arith) (omega arith), reads 3 (4 * j + 2 + 1) (omega arith) (omega arith)) in
+    ap (λ a. record { shoulder = to_z w16 a; elbow = to_z w16 (word_at t 2) }) first ∙ ap (λ b. record { shoulder = to_z w16 (word_at l (4 * j)); elbow = to_z w16 b }) second

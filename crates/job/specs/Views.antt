@@ -10,13 +10,18 @@ use Rattle.job.specs.declared.cursor.Cursor.{Cursor}
 use Rattle.job.specs.declared.records.Records.{Records}
 use Rattle.job.specs.declared.header.Header.{Header}
 use Rattle.job.specs.Contents.{Entry, Head}
-use Rattle.job.specs.Reading.{Out, got, fault}
+use Rattle.job.specs.Reading.{Out, got, fault, Read}
 use Rattle.job.specs.Bytes.{poses_of_bytes}
 
 -- What was answered, with the place q at which the reader then stands.
 abbrev pub answer : {T A : Type 0} → (T → A) → Result T Fault → ℕ → Out A
 answer f (Ok t) q = got (f t) q
 answer f (Err e) q = fault e.question e.place
+
+-- A call took the cursor from old to new: it answered as r reads the file at the old place, and stays in the file.
+pub record Reads {T A : Type 0} (f : T → A) (r : Read A) (old new : Cursor) (result : Result T Fault) : Type 0 where
+  pub said : answer f result new.at ≡ r old.file.now old.at
+  pub file : new.file ≡ old.file
 
 abbrev pub part_v : Part → ℕ × List ℕ
 part_v p = (p.place, p.bytes.now)

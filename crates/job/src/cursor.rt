@@ -1,13 +1,13 @@
-ghost use Rattle.std.specs.Prelude.{◌≡◌, ℕ, ◌+◌, ◌≤◌, length, IfOk, if◌then◌else◌, OnOk};
-ghost use Rattle.job.specs.Reading.{byte, word, signed, chunk, ranged};
-ghost use Rattle.job.specs.Views.{answer, part_v, Lies};
+ghost use Rattle.std.specs.Prelude.{◌≡◌, ℕ, ◌+◌, ◌<◌, ◌≤◌, length, IfOk, unwrap_or, slice_index};
 
 use crate::faults::{Fault, Question};
 
-// A place in a file. The file's bytes go beside it.
+// A place in a file.
 #[derive(Clone, Copy)]
-pub struct Cursor {
+pub struct Cursor<'a> {
+    pub(crate) file: &'a [u8],
     pub(crate) at: usize,
+    ghost bytes: { (i : ℕ) → slice_index file.now i < 256 },
 }
 
 // Some bytes of a file, with the place of the first.
@@ -17,104 +17,86 @@ pub struct Part<'a> {
     pub bytes: &'a [u8],
 }
 
-impl Cursor {
-    pub(crate) fn next_byte(&mut self, file: &[u8]) -> Result<u8, Fault>
-        ensures reads { answer (λ n. n) result self.new.at ≡ byte file.now self.old.at }
-        ensures moves { OnOk result (self.new.at ≡ self.old.at + 1) }
+impl<'a> Cursor<'a> {
+    ghost use Rattle.job.specs.Reading.{byte, word, signed, chunk, ranged};
+    ghost use Rattle.job.specs.Views.{Reads, part_v, Lies};
+
+    // The refusal of what begins here.
+    pub(crate) fn fault(&self, question: Question) -> Fault
+        ensures { result ≡ record { question = question; place = self.now.at } }
     {
-        let at = self.at;
-        if at >= file.len() {
-            return Err(Fault {
-                question: Question::Whole,
-                place: at,
-            });
+        Fault {
+            question,
+            place: self.at,
         }
-        self.at = at + 1;
-        Ok(file[at])
     }
 
-    pub(crate) fn next_word(&mut self, file: &[u8]) -> Result<u16, Fault>
-        ensures reads { answer (λ n. n) result self.new.at ≡ word file.now self.old.at }
+    // The next n bytes, a whole field.
+    pub(crate) fn next_part(&mut self, n: usize) -> Result<Part<'a>, Fault>
+        ensures reads { Reads part_v (chunk n) self.old self.new result }
+        ensures moves { IfOk result (λ p. (p.place ≡ self.old.at) × Lies self.old.file.now p × (length p.bytes.now ≡ n) × (self.new.at ≡ self.old.at + n)) }
     {
-        let at = self.at;
-        if at > file.len() || file.len() - at < 2 {
-            return Err(Fault {
-                question: Question::Whole,
-                place: at,
-            });
-        }
-        self.at = at + 2;
-        Ok(u16::from_le_bytes([file[at], file[at + 1]]))
+        let place = self.at;
+        let bytes = self
+            .file
+            .get(place..)
+            .and_then(|rest| rest.get(..n))
+            .ok_or(self.fault(Question::Whole))?;
+        self.at += n;
+        Ok(Part { place, bytes })
     }
 
-    pub(crate) fn next_signed(&mut self, file: &[u8]) -> Result<i16, Fault>
-        ensures reads { answer (λ n. n) result self.new.at ≡ signed file.now self.old.at }
-        ensures moves { OnOk result (self.new.at ≡ self.old.at + 2) }
+    pub(crate) fn next_byte(&mut self) -> Result<u8, Fault>
+        ensures reads { Reads (λ n. n) byte self.old self.new result }
+        ensures moves { IfOk result (λ n. self.new.at ≡ self.old.at + 1) }
     {
-        let at = self.at;
-        if at > file.len() || file.len() - at < 2 {
-            return Err(Fault {
-                question: Question::Whole,
-                place: at,
-            });
-        }
-        self.at = at + 2;
-        Ok(i16::from_le_bytes([file[at], file[at + 1]]))
+        let part = self.next_part(1)?;
+        Ok(part.bytes[0])
     }
 
-    pub(crate) fn next_part<'a>(&mut self, file: &'a [u8], n: usize) -> Result<Part<'a>, Fault>
-        ensures reads { answer part_v result self.new.at ≡ chunk n file.now self.old.at }
-        ensures moves { IfOk result (λ p. (p.place ≡ self.old.at) × Lies file.now p × (length p.bytes.now ≡ n) × (self.new.at ≡ self.old.at + n)) }
+    pub(crate) fn next_word(&mut self) -> Result<u16, Fault>
+        ensures { Reads (λ n. n) word self.old self.new result }
     {
-        let at = self.at;
-        if at > file.len() || file.len() - at < n {
-            return Err(Fault {
-                question: Question::Whole,
-                place: at,
-            });
-        }
-        self.at = at + n;
-        Ok(Part {
-            place: at,
-            bytes: &file[at..at + n],
-        })
+        let part = self.next_part(2)?;
+        Ok(u16::from_le_bytes([part.bytes[0], part.bytes[1]]))
+    }
+
+    pub(crate) fn next_signed(&mut self) -> Result<i16, Fault>
+        ensures reads { Reads (λ n. n) signed self.old self.new result }
+        ensures moves { IfOk result (λ n. self.new.at ≡ self.old.at + 2) }
+    {
+        let part = self.next_part(2)?;
+        Ok(i16::from_le_bytes([part.bytes[0], part.bytes[1]]))
     }
 
     // A number from low to high.
-    pub(crate) fn next_ranged(&mut self, file: &[u8], low: u16, high: u16) -> Result<u16, Fault>
-        ensures reads { answer (λ n. n) result self.new.at ≡ ranged low high file.now self.old.at }
+    pub(crate) fn next_ranged(&mut self, low: u16, high: u16) -> Result<u16, Fault>
+        ensures reads { Reads (λ n. n) (ranged low high) self.old self.new result }
         ensures within { IfOk result (λ n. n ≤ high) }
     {
-        let place = self.at;
-        let n = self.next_word(file)?;
+        let refusal = self.fault(Question::Range);
+        let n = self.next_word()?;
         if n < low || n > high {
-            return Err(Fault {
-                question: Question::Range,
-                place,
-            });
+            return Err(refusal);
         }
         Ok(n)
     }
 }
 
-// Puts the cursor back where it stood, unless what it guards was done.
-pub(crate) struct Guard<'g> {
-    pub(crate) cursor: &'g mut Cursor,
-    pub(crate) start: usize,
-    pub(crate) done: bool,
+// On drop, puts the cursor back to a place, if one is kept.
+pub(crate) struct Guard<'g, 'a> {
+    pub(crate) cursor: &'g mut Cursor<'a>,
+    pub(crate) back: Option<usize>,
 }
 
-impl Drop for Guard<'_> {
+impl Drop for Guard<'_, '_> {
     fn drop(self)
-        ensures { self.exit.0.now.at ≡ (if self.entry.done then self.entry.cursor.now.at else self.entry.start) }
+        ensures place { self.exit.0.now.at ≡ unwrap_or self.entry.back self.entry.cursor.now.at }
+        ensures file { self.exit.0.now.file ≡ self.entry.cursor.now.file }
     {
-        let Guard {
-            cursor,
-            start,
-            done,
-        } = self;
-        if !done {
-            cursor.at = start;
+        let Guard { cursor, back } = self;
+        if let Some(place) = back {
+            cursor.at = place;
         }
     }
 }

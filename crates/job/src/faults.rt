@@ -5,15 +5,15 @@ ghost use Rattle.job.specs.Questions.{number};
 #[derive(Clone, Copy, PartialEq, Eq, Debug)]
 pub enum Question {
     // Does the file start with its letters?
-    Letters,
+    Letters = 11,
     // Has a map no bit above its highest named one?
-    Map,
+    Map = 12,
     // Is the whole field there?
-    Whole,
+    Whole = 13,
     // Is the value in range?
-    Range,
+    Range = 14,
     // Does the file end after the last record?
-    End,
+    End = 15,
 }
 
 impl Question {
@@ -21,13 +21,7 @@ impl Question {
     pub fn number(self) -> u8
         ensures { result ≡ number self }
     {
-        match self {
-            Question::Letters => 11,
-            Question::Map => 12,
-            Question::Whole => 13,
-            Question::Range => 14,
-            Question::End => 15,
-        }
+        self as u8
     }
 }
 

@@ -1,29 +1,39 @@
-ghost use Rattle.std.specs.Prelude.{◌≡◌, ℕ, ◌+◌, ◌≤◌, cond, length, IfOk};
-ghost use Rattle.job.specs.Reading.{opt, limits, arm, ration, opening, head_fields, heading};
-ghost use Rattle.job.specs.Bytes.{stands};
+ghost use Rattle.std.specs.Prelude.{◌≡◌, ℕ, ◌≤◌, IfOk};
+ghost use Rattle.job.specs.Reading.{limits, arm, opening, head_fields, heading};
 ghost use Rattle.job.specs.Outcomes.{Opened};
-ghost use Rattle.job.specs.Views.{answer, begun, opened, head_v};
+ghost use Rattle.job.specs.Views.{Reads, begun, opened, head_v};
 
 use crate::cursor::Cursor;
 use crate::faults::{Fault, Question};
 use crate::records::Records;
-use crate::values::{Arm, StepLimits};
+use crate::values::Arm;
+use ladder::poses::Limits;
+
+// The bits of the header's map.
+const LIMITS: u8 = 1;
+
+const ARM: u8 = 2;
+
+const RATION: u8 = 4;
+
+const UNNAMED: u8 = 248;
 
 // What a file says before its records; a value that is not written is None.
 #[derive(Clone, Copy)]
 pub struct Header {
-    pub limits: Option<StepLimits>,
+    pub limits: Option<Limits>,
     pub arm: Option<Arm>,
     pub ration: Option<u16>,
 }
 
 // The letters and the map, and a cursor on what follows.
-fn begin(file: &[u8]) -> Result<(u8, Cursor), Fault>
-    ensures { begun result ≡ opening file.now 0 }
+fn begin<'a>(file: &'a [u8]) -> Result<(u8, Cursor<'a>), Fault>
+    ensures reads { begun result ≡ opening file.now 0 }
+    ensures kept { IfOk result (λ t. t.1.file ≡ file.entry) }
 {
     match file {
         [b'T', b'L', b'A', b'D', map, rest @ ..] => {
-            if *map & 248 != 0 {
+            if *map & UNNAMED != 0 {
                 return Err(Fault {
                     question: Question::Map,
                     place: 4,
@@ -32,6 +42,7 @@ fn begin(file: &[u8]) -> Result<(u8, Cursor), Fault>
             Ok((
                 *map,
                 Cursor {
+                    file,
                     at: file.len() - rest.len(),
                 },
             ))
@@ -47,69 +58,66 @@ fn begin(file: &[u8]) -> Result<(u8, Cursor), Fault>
     }
 }
 
-fn limits_field(cursor: &mut Cursor, file: &[u8], map: u8) -> Result<Option<StepLimits>, Fault>
-    ensures reads { answer (λ v. v) result cursor.new.at ≡ opt (stands map 1) limits file.now cursor.old.at }
-{
-    if map & 1 == 0 {
-        return Ok(None);
+impl<'a> Cursor<'a> {
+    fn next_limits(&mut self) -> Result<Limits, Fault>
+        ensures { Reads (λ v. v) limits self.old self.new result }
+    {
+        Ok(Limits {
+            shoulder: self.next_word()?,
+            elbow: self.next_word()?,
+        })
     }
-    let shoulder = cursor.next_word(file)?;
-    let elbow = cursor.next_word(file)?;
-    Ok(Some(StepLimits { shoulder, elbow }))
-}
 
-fn arm_field(cursor: &mut Cursor, file: &[u8], map: u8) -> Result<Option<Arm>, Fault>
-    ensures reads { answer (λ v. v) result cursor.new.at ≡ opt (stands map 2) arm file.now cursor.old.at }
-{
-    if map & 2 == 0 {
-        return Ok(None);
+    fn next_arm(&mut self) -> Result<Arm, Fault>
+        ensures { Reads (λ v. v) arm self.old self.new result }
+    {
+        Ok(Arm {
+            first: self.next_ranged(1, 2000)?,
+            second: self.next_ranged(1, 2000)?,
+            window: self.next_ranged(0, 2000)?,
+        })
     }
-    let first = cursor.next_ranged(file, 1, 2000)?;
-    let second = cursor.next_ranged(file, 1, 2000)?;
-    let window = cursor.next_ranged(file, 0, 2000)?;
-    Ok(Some(Arm {
-        first,
-        second,
-        window,
-    }))
-}
 
-fn ration_field(cursor: &mut Cursor, file: &[u8], map: u8) -> Result<Option<u16>, Fault>
-    ensures reads { answer (λ v. v) result cursor.new.at ≡ opt (stands map 4) ration file.now cursor.old.at }
-{
-    if map & 4 == 0 {
-        return Ok(None);
+    // The header's fields that the map names, and the count of records.
+    fn next_header(&mut self, map: u8) -> Result<(Header, u16), Fault>
+        ensures reads { Reads (λ t. (head_v t.0, t.1)) (head_fields map) self.old self.new result }
+        ensures few { IfOk result (λ t. t.1 ≤ 128) }
+    {
+        let limits = if map & LIMITS != 0 {
+            Some(self.next_limits()?)
+        } else {
+            None
+        };
+        let arm = if map & ARM != 0 {
+            Some(self.next_arm()?)
+        } else {
+            None
+        };
+        let ration = if map & RATION != 0 {
+            Some(self.next_ranged(1, 4096)?)
+        } else {
+            None
+        };
+        let count = self.next_ranged(0, 128)?;
+        Ok((
+            Header {
+                limits,
+                arm,
+                ration,
+            },
+            count,
+        ))
     }
-    Ok(Some(cursor.next_ranged(file, 1, 4096)?))
-}
-
-// The header's fields that the map names, and the count of records.
-fn header_fields(cursor: &mut Cursor, file: &[u8], map: u8) -> Result<(Header, u16), Fault>
-    ensures reads { answer (λ t. (head_v t.0, t.1)) result cursor.new.at ≡ head_fields map file.now cursor.old.at }
-    ensures few { IfOk result (λ t. t.1 ≤ 128) }
-{
-    let limits = limits_field(cursor, file, map)?;
-    let arm = arm_field(cursor, file, map)?;
-    let ration = ration_field(cursor, file, map)?;
-    let count = cursor.next_ranged(file, 0, 128)?;
-    Ok((
-        Header {
-            limits,
-            arm,
-            ration,
-        },
-        count,
-    ))
 }
 
 // Reads what stands before the records: the header, and a reader of the records.
 pub fn open<'a>(file: &'a [u8]) -> Result<(Header, Records<'a>), Fault>
     ensures reads { opened result ≡ heading file.now 0 }
-    ensures kept { IfOk result (λ t. t.1.file ≡ file.entry) }
+    ensures kept { IfOk result (λ t. t.1.cursor.file ≡ file.entry) }
     ensures few { IfOk result (λ t. t.1.left ≤ 128) }
     ensures law { Opened file.now result }
 {
     let (map, mut cursor) = begin(file)?;
-    let (header, left) = header_fields(&mut cursor, file, map)?;
-    Ok((header, Records { file, cursor, left }))
+    let (header, left) = cursor.next_header(map)?;
+    Ok((header, Records { cursor, left }))
 }

@@ -1,45 +1,25 @@
-ghost use Rattle.std.specs.Prelude.{◌≡◌, ℕ, ◌+◌, ◌≤◌, map, length, take, drop};
-ghost use Rattle.std.specs.Option.{option_map};
+ghost use Rattle.std.specs.Prelude.{◌≡◌, length};
 ghost use Rattle.std.specs.List.{slice_get};
-ghost use Rattle.job.specs.Bytes.{signed_word_at, poses_of_bytes};
+ghost use Rattle.job.specs.Bytes.{poses_of_bytes};
 ghost use Rattle.job.specs.Resolved.{position_in, poses_in};
-ghost use Rattle.job.specs.Rows.{row_v};
 ghost use Rattle.job.specs.Jobs.{view};
 
-use crate::rows::Row;
-use crate::values::{Arm, Counts, Position, StepLimits};
+use crate::rows::Table;
+use crate::values::{Arm, Position};
+use ladder::poses::{Limits, Pose};
 
 // A job that was read: its values, and its pose lists where they lie in the file.
 #[derive(Clone, Copy)]
 pub struct Job<'a> {
-    pub(crate) file: &'a [u8],
-    pub(crate) limits: StepLimits,
+    pub(crate) limits: Limits,
     pub(crate) arm: Option<Arm>,
     pub(crate) ration: u16,
-    pub(crate) len: u16,
-    pub(crate) table: [Row; 128],
-}
-
-// At most n bytes of the file from the place on, as many as there are.
-fn part(file: &[u8], place: usize, n: usize) -> &[u8]
-    ensures { result.now ≡ take n (drop place file.now) }
-{
-    let start = place.min(file.len());
-    let size = n.min(file.len() - start);
-    &file[start..start + size]
-}
-
-// The signed number at a place.
-fn signed_at(bytes: &[u8], at: usize) -> i16
-    requires { at + 2 ≤ length bytes.now }
-    ensures { result ≡ signed_word_at bytes.now at }
-{
-    i16::from_le_bytes([bytes[at], bytes[at + 1]])
+    pub(crate) table: Table<'a>,
 }
 
 impl<'a> Job<'a> {
     // The step limits.
-    pub fn limits(&self) -> StepLimits
+    pub fn limits(&self) -> Limits
         ensures { result ≡ (view self.now).limits }
     {
         self.limits
@@ -63,24 +43,14 @@ impl<'a> Job<'a> {
     pub fn len(&self) -> u16
         ensures { result ≡ length (view self.now).waypoints }
     {
-        self.len.min(128)
-    }
-
-    // Row w of the table, for waypoint w.
-    fn row(&self, w: u16) -> Option<Row>
-        ensures { option_map (row_v self.now.file.now) result ≡ slice_get (view self.now).waypoints w }
-    {
-        if w >= self.len() {
-            return None;
-        }
-        Some(self.table[w as usize])
+        self.table.len()
     }
 
     // Where waypoint w lies; None where there is no such record.
     pub fn position(&self, w: u16) -> Option<Position>
         ensures { result ≡ position_in (view self.now) w }
     {
-        let row = self.row(w)?;
+        let row = self.table.get(w)?;
         Some(row.position)
     }
 
@@ -88,10 +58,7 @@ impl<'a> Job<'a> {
     fn list(&self, w: u16) -> &'a [u8]
         ensures { poses_of_bytes result.now ≡ poses_in (view self.now) w }
     {
-        match self.row(w) {
-            Some(row) => part(self.file, row.place, row.size),
-            None => part(self.file, 0, 0),
-        }
+        self.table.get(w).map_or(&[], |row| row.poses)
     }
 
     // How many poses waypoint w has.
@@ -102,16 +69,14 @@ impl<'a> Job<'a> {
     }
 
     // Pose j of waypoint w, if it has so many.
-    pub fn pose(&self, w: u16, j: usize) -> Option<Counts>
+    pub fn pose(&self, w: u16, j: usize) -> Option<Pose>
         ensures { result ≡ slice_get (poses_in (view self.now) w) j }
     {
-        let list = self.list(w);
-        if j >= list.len() / 4 {
-            return None;
-        }
-        Some(Counts {
-            shoulder: signed_at(list, 4 * j),
-            elbow: signed_at(list, 4 * j + 2),
+        let (poses, _) = self.list(w).as_chunks::<4>();
+        let [a, b, c, d] = *poses.get(j)?;
+        Some(Pose {
+            shoulder: i16::from_le_bytes([a, b]),
+            elbow: i16::from_le_bytes([c, d]),
         })
     }
 }

@@ -9,9 +9,8 @@ ghost use Rattle.job.specs.Outcomes.{Outcome};
 use crate::faults::{Fault, Question};
 use crate::header::open;
 use crate::jobs::Job;
-use crate::rows::Row;
 use crate::table::read_rows;
-use crate::values::{Position, StepLimits};
+use ladder::poses::Limits;
 
 // The job of a whole file, from its header, its records and its end.
 fn scan<'a>(file: &'a [u8]) -> Result<Job<'a>, Fault>
@@ -19,30 +18,19 @@ fn scan<'a>(file: &'a [u8]) -> Result<Job<'a>, Fault>
     ensures stops { IfErr result (λ e. file_out file.now ≡ fault e.question e.place) }
 {
     let (header, mut records) = open(file)?;
-    let limits = header.limits.unwrap_or(StepLimits {
+    let limits = header.limits.unwrap_or(Limits {
         shoulder: 65535,
         elbow: 65535,
     });
     let ration = header.ration.unwrap_or(4096);
-    let mut table = [Row {
-        position: Position { x: 0, y: 0 },
-        place: 0,
-        size: 0,
-    }; 128];
-    let len = read_rows(&mut records, &mut table)?;
-    let end = records.cursor.at;
-    if end != file.len() {
-        return Err(Fault {
-            question: Question::End,
-            place: end,
-        });
+    let table = read_rows(&mut records)?;
+    if records.cursor.at != file.len() {
+        return Err(records.cursor.fault(Question::End));
     }
     Ok(Job {
-        file,
         limits,
         arm: header.arm,
         ration,
-        len,
         table,
     })
 }

@@ -1,9 +1,10 @@
-ghost use Rattle.std.specs.Prelude.{◌≡◌, ℕ, ◌+◌, ◌<◌, ◌≤◌, cond, length, IfSome, IfOk, nat_lt, slice_index};
+ghost use Rattle.std.specs.Prelude.{◌≡◌, ℕ, ◌+◌, ◌<◌, length, IfSome, IfOk, nat_lt};
 ghost use Rattle.std.specs.Option.{option_map};
-ghost use Rattle.job.specs.Reading.{opt, signed, poses, note, entry};
-ghost use Rattle.job.specs.Bytes.{stands, poses_of_bytes};
+ghost use Rattle.std.specs.Iterator.{YieldsFirstBy, item_count};
+ghost use Rattle.job.specs.Reading.{opt, poses, note, entry, entry_fields};
+ghost use Rattle.job.specs.Bytes.{poses_of_bytes};
 ghost use Rattle.job.specs.Outcomes.{Next};
-ghost use Rattle.job.specs.Views.{answer, part_v, record_v, two, part_size, Lies, Placed, Places, field_v, Without, taken, unhanded, first_of, rest_of};
+ghost use Rattle.job.specs.Views.{Reads, record_v, Lies, Places, field_v, Without, taken, unhanded, first_of, rest_of};
 
 use crate::cursor::{Cursor, Guard, Part};
 use crate::faults::{Fault, Question};
@@ -26,112 +27,107 @@ pub enum Field<'a> {
     Note(Part<'a>),
 }
 
-fn signed_field(cursor: &mut Cursor, file: &[u8], map: u8, weight: u8) -> Result<Option<i16>, Fault>
-    ensures reads { answer (λ v. v) result cursor.new.at ≡ opt (stands map weight) signed file.now cursor.old.at }
-    ensures moves { IfOk result (λ o. cursor.new.at ≡ cursor.old.at + two o) }
-{
-    if map & weight == 0 {
-        return Ok(None);
-    }
-    Ok(Some(cursor.next_signed(file)?))
-}
+// The bits of a record's map.
+const X: u8 = 1;
 
-fn read_poses<'a>(cursor: &mut Cursor, file: &'a [u8]) -> Result<Part<'a>, Fault>
-    ensures reads { answer (λ p. poses_of_bytes p.bytes.now) result cursor.new.at ≡ poses file.now cursor.old.at }
-    ensures moves { IfOk result (λ p. (p.place ≡ cursor.old.at + 1) × Lies file.now p × (cursor.new.at ≡ cursor.old.at + 1 + length p.bytes.now)) }
-{
-    let place = cursor.at;
-    let n = cursor.next_byte(file)?;
-    if n < 1 || n > 16 {
-        return Err(Fault {
-            question: Question::Range,
-            place,
-        });
-    }
-    cursor.next_part(file, n as usize * 4)
-}
+const Y: u8 = 2;
 
-fn poses_field<'a>(cursor: &mut Cursor, file: &'a [u8], map: u8) -> Result<Option<Part<'a>>, Fault>
-    ensures reads { answer (option_map (λ p. poses_of_bytes p.bytes.now)) result cursor.new.at ≡ opt (stands map 4) poses file.now cursor.old.at }
-    ensures moves { IfOk result (λ o. Placed file.now (cursor.old.at + 1) o × (cursor.new.at ≡ cursor.old.at + part_size o)) }
-{
-    if map & 4 == 0 {
-        return Ok(None);
-    }
-    Ok(Some(read_poses(cursor, file)?))
-}
+const POSES: u8 = 4;
 
-fn read_note<'a>(cursor: &mut Cursor, file: &'a [u8]) -> Result<Part<'a>, Fault>
-    ensures reads { answer (λ p. p.bytes.now) result cursor.new.at ≡ note file.now cursor.old.at }
-    ensures moves { IfOk result (λ p. (p.place ≡ cursor.old.at + 1) × Lies file.now p) }
-{
-    let n = cursor.next_byte(file)?;
-    cursor.next_part(file, n as usize)
-}
+const NOTE: u8 = 8;
 
-fn note_field<'a>(cursor: &mut Cursor, file: &'a [u8], map: u8) -> Result<Option<Part<'a>>, Fault>
-    ensures reads { answer (option_map (λ p. p.bytes.now)) result cursor.new.at ≡ opt (stands map 8) note file.now cursor.old.at }
-    ensures moves { IfOk result (λ o. Placed file.now (cursor.old.at + 1) o) }
-{
-    if map & 8 == 0 {
-        return Ok(None);
-    }
-    Ok(Some(read_note(cursor, file)?))
-}
+const UNNAMED: u8 = 240;
 
-// The record at the cursor.
-fn read_record<'a>(cursor: &mut Cursor, file: &'a [u8]) -> Result<Record<'a>, Fault>
-    ensures reads { answer record_v result cursor.new.at ≡ entry file.now cursor.old.at }
-    ensures places { IfOk result (λ v. Places file.now cursor.old.at v) }
-    ensures bytes { (i : ℕ) → slice_index file.now i < 256 }
-{
-    let place = cursor.at;
-    let map = cursor.next_byte(file)?;
-    if map & 240 != 0 {
-        return Err(Fault {
-            question: Question::Map,
-            place,
-        });
+impl<'a> Cursor<'a> {
+    // A pose list after its count.
+    fn next_poses(&mut self) -> Result<Part<'a>, Fault>
+        ensures reads { Reads (λ p. poses_of_bytes p.bytes.now) poses self.old self.new result }
+        ensures moves { IfOk result (λ p. (p.place ≡ self.old.at + 1) × Lies self.old.file.now p × (self.new.at ≡ self.old.at + 1 + length p.bytes.now)) }
+    {
+        let refusal = self.fault(Question::Range);
+        let n = self.next_byte()?;
+        if n < 1 || n > 16 {
+            return Err(refusal);
+        }
+        self.next_part(n as usize * 4)
     }
-    let x = signed_field(cursor, file, map, 1)?;
-    let y = signed_field(cursor, file, map, 2)?;
-    let poses = poses_field(cursor, file, map)?;
-    let note = note_field(cursor, file, map)?;
-    Ok(Record { x, y, poses, note })
+
+    // A note after its length.
+    fn next_note(&mut self) -> Result<Part<'a>, Fault>
+        ensures reads { Reads (λ p. p.bytes.now) note self.old self.new result }
+        ensures moves { IfOk result (λ p. (p.place ≡ self.old.at + 1) × Lies self.old.file.now p) }
+    {
+        let n = self.next_byte()?;
+        self.next_part(n as usize)
+    }
+
+    // The fields that a record's map names.
+    fn next_fields(&mut self, map: u8) -> Result<Record<'a>, Fault>
+        ensures reads { Reads record_v (entry_fields map) self.old self.new result }
+        ensures places { (p : ℕ) → self.old.at ≡ p + 1 → IfOk result (Places self.old.file.now p) }
+    {
+        let x = if map & X != 0 {
+            Some(self.next_signed()?)
+        } else {
+            None
+        };
+        let y = if map & Y != 0 {
+            Some(self.next_signed()?)
+        } else {
+            None
+        };
+        let poses = if map & POSES != 0 {
+            Some(self.next_poses()?)
+        } else {
+            None
+        };
+        let note = if map & NOTE != 0 {
+            Some(self.next_note()?)
+        } else {
+            None
+        };
+        Ok(Record { x, y, poses, note })
+    }
+
+    fn next_record(&mut self) -> Result<Record<'a>, Fault>
+        ensures reads { Reads record_v entry self.old self.new result }
+        ensures places { IfOk result (Places self.old.file.now self.old.at) }
+    {
+        let refusal = self.fault(Question::Map);
+        let map = self.next_byte()?;
+        if map & UNNAMED != 0 {
+            return Err(refusal);
+        }
+        self.next_fields(map)
+    }
 }
 
 // A file's records from the cursor on.
 #[derive(Drop)]
 pub struct Records<'a> {
-    pub(crate) file: &'a [u8],
-    pub(crate) cursor: Cursor,
+    pub(crate) cursor: Cursor<'a>,
     pub(crate) left: u16,
 }
 
 impl<'a> Records<'a> {
     // The next record, or None after the last. Where it answers no record, the reader is back on that record's map byte.
     pub fn next_record(&mut self) -> Result<Option<Record<'a>>, Fault>
-        ensures reads { answer (option_map record_v) result self.new.cursor.at ≡ opt (nat_lt 0 self.old.left) entry self.old.file.now self.old.cursor.at }
-        ensures places { IfOk result (λ o. IfSome o (Places self.old.file.now self.old.cursor.at)) }
+        ensures reads { Reads (option_map record_v) (opt (nat_lt 0 self.old.left) entry) self.old.cursor self.new.cursor result }
+        ensures places { IfOk result (λ o. IfSome o (Places self.old.cursor.file.now self.old.cursor.at)) }
         ensures back { Without result (self.new.cursor.at ≡ self.old.cursor.at) }
         ensures left { self.new.left + taken result ≡ self.old.left }
-        ensures kept { self.new.file ≡ self.old.file }
-        ensures law { Next self.old.file.now self.old.left self.old.cursor.at self.new.cursor.at result }
+        ensures law { Next self.old.cursor.file.now self.old.left self.old.cursor.at self.new.cursor.at result }
     {
-        let file = self.file;
-        let left = self.left;
-        let start = self.cursor.at;
         let mut guard = Guard {
+            back: Some(self.cursor.at),
             cursor: &mut self.cursor,
-            start,
-            done: false,
         };
-        if left == 0 {
+        if self.left == 0 {
             return Ok(None);
         }
-        let record = read_record(guard.cursor, file)?;
-        guard.done = true;
-        self.left = left - 1;
+        let record = guard.cursor.next_record()?;
+        guard.back = None;
+        self.left -= 1;
         Ok(Some(record))
     }
 }
@@ -155,5 +151,17 @@ impl<'a> Record<'a> {
             return Some(Field::Note(part));
         }
         None
+    }
+}
+
+impl<'a> Iterator for Record<'a> {
+    type Item = Field<'a>;
+
+    ghost next_gives = { YieldsFirstBy field_v unhanded };
+
+    ghost remaining = { item_count unhanded };
+
+    fn next(&mut self) -> Option<Field<'a>> {
+        self.next_field()
     }
 }

@@ -1,9 +1,69 @@
+ghost use Rattle.std.specs.Prelude.{◌≡◌, ◌≤◌, length};
+
 use crate::values::Position;
 
-// A waypoint as the table of a job keeps it: its position, and how many bytes of poses lie where in the file.
+// A waypoint of a job: its position, and the bytes of its pose list where they lie in the file.
 #[derive(Clone, Copy)]
-pub(crate) struct Row {
+pub(crate) struct Row<'a> {
     pub(crate) position: Position,
-    pub(crate) place: usize,
-    pub(crate) size: usize,
+    pub(crate) poses: &'a [u8],
+}
+
+// The waypoints of a job in order, in fixed places, since the reader allocates nothing: a file has at most 128 records.
+#[derive(Clone, Copy)]
+pub(crate) struct Table<'a> {
+    len: u16,
+    rows: [Row<'a>; 128],
+    ghost size: { length rows ≡ 128 },
+    ghost fits: { len ≤ 128 },
+}
+
+impl<'a> Row<'a> {
+    ghost use Rattle.std.specs.Prelude.{[]};
+    ghost use Rattle.job.specs.Rows.{row_v};
+
+    // A waypoint with no poses.
+    pub(crate) fn bare(position: Position) -> Row<'a>
+        ensures { row_v result ≡ record { position = position; poses = [] } }
+    {
+        Row {
+            position,
+            poses: &[],
+        }
+    }
+}
+
+impl<'a> Table<'a> {
+    ghost use Rattle.std.specs.Prelude.{◌<◌, ◌++◌, ◌∷◌, []};
+    ghost use Rattle.std.specs.List.{slice_get};
+    ghost use Rattle.job.specs.Rows.{in_use};
+
+    pub(crate) fn new() -> Table<'a>
+        ensures { in_use result ≡ [] }
+    {
+        Table {
+            len: 0,
+            rows: [Row::bare(Position { x: 0, y: 0 }); 128],
+        }
+    }
+
+    pub(crate) fn push(&mut self, row: Row<'a>)
+        requires { length (in_use self.old) < 128 }
+        ensures { in_use self.new ≡ in_use self.old ++ row.entry ∷ [] }
+    {
+        self.rows[self.len as usize] = row;
+        self.len += 1;
+    }
+
+    pub(crate) fn len(&self) -> u16
+        ensures { result ≡ length (in_use self.now) }
+    {
+        self.len
+    }
+
+    pub(crate) fn get(&self, w: u16) -> Option<Row<'a>>
+        ensures { result ≡ slice_get (in_use self.now) w }
+    {
+        self.rows[..self.len as usize].get(w as usize).copied()
+    }
 }

@@ -1,62 +1,47 @@
-ghost use Rattle.std.specs.Prelude.{◌≡◌, ℕ, ◌+◌, ◌≤◌, List, map, length, take, IfSome};
+ghost use Rattle.std.specs.Prelude.{◌≡◌, ◌≤◌, map};
 ghost use Rattle.job.specs.Reading.{via, many, entry};
 ghost use Rattle.job.specs.Resolved.{waypoint, waypoints, origin};
-ghost use Rattle.job.specs.Rows.{row_v, entered};
-ghost use Rattle.job.specs.Views.{answer, record_v, field_v, Lies};
+ghost use Rattle.job.specs.Rows.{row_v, in_use, entered};
+ghost use Rattle.job.specs.Views.{Reads, record_v, field_v};
 
 use crate::faults::Fault;
 use crate::records::{Field, Record, Records};
-use crate::rows::Row;
+use crate::rows::{Row, Table};
 use crate::values::Position;
 
-impl Row {
+impl<'a> Row<'a> {
     // The row with one field of its record entered.
-    fn with(self, field: Field) -> Row
-        ensures { result ≡ entered self (field_v field.entry) }
+    fn with(mut self, field: Field<'a>) -> Row<'a>
+        ensures { row_v result ≡ entered (row_v self.entry) (field_v field.entry) }
     {
-        let mut row = self;
         match field {
-            Field::X(x) => row.position.x = x,
-            Field::Y(y) => row.position.y = y,
-            Field::Poses(part) => {
-                let bytes = part.bytes;
-                row.place = part.place;
-                row.size = bytes.len();
-            }
+            Field::X(x) => self.position.x = x,
+            Field::Y(y) => self.position.y = y,
+            Field::Poses(part) => self.poses = part.bytes,
             Field::Note(_) => {}
         }
-        row
+        self
     }
 }
 
 // The row of a record that follows one at the position before.
-fn row_of(mut fields: Record, before: Position) -> Row
-    ensures { (s : List ℕ) → IfSome fields.entry.poses (Lies s) → row_v s result ≡ waypoint before (record_v fields.entry) }
+fn row_of<'a>(fields: Record<'a>, before: Position) -> Row<'a>
+    ensures { row_v result ≡ waypoint before (record_v fields.entry) }
 {
-    let mut row = Row {
-        position: before,
-        place: 0,
-        size: 0,
-    };
-    while let Some(field) = fields.next_field() {
-        row = row.with(field);
-    }
-    row
+    fields.fold(Row::bare(before), Row::with)
 }
 
-// Reads the records into rows, one for each, and answers how many there are.
-pub(crate) fn read_rows(records: &mut Records, rows: &mut [Row]) -> Result<u16, Fault>
-    requires few { records.old.left ≤ 128 }
-    requires room { length rows.old ≡ 128 }
-    ensures reads { answer (λ n. map (row_v records.old.file.now) (take n rows.new)) result records.new.cursor.at ≡ via (waypoints origin) (many records.old.left entry) records.old.file.now records.old.cursor.at }
+// Reads the records into rows, one for each.
+pub(crate) fn read_rows<'a>(records: &mut Records<'a>) -> Result<Table<'a>, Fault>
+    requires { records.old.left ≤ 128 }
+    ensures { Reads (λ t. map row_v (in_use t)) (via (waypoints origin) (many records.old.left entry)) records.old.cursor records.new.cursor result }
 {
-    let mut n: u16 = 0;
+    let mut table = Table::new();
     let mut before = Position { x: 0, y: 0 };
     while let Some(fields) = records.next_record()? {
         let row = row_of(fields, before);
-        rows[n as usize] = row;
+        table.push(row);
         before = row.position;
-        n += 1;
     }
-    Ok(n)
+    Ok(table)
 }

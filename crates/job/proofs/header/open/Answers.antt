@@ -1,4 +1,4 @@
-use Rattle.std.proofs.Common.{◌≡◌, Ok, refl, rules}
+use Rattle.std.proofs.Common.{◌≡◌, Ok, rules}
 use Rattle.job.specs.Reading.{got, heading}
 use Rattle.job.specs.Views.{opened, head_v}
 use Rattle.job.proofs.Steps.{open_law}
@@ -18,11 +18,11 @@ pub returns : goal.returns
 returns c =
     let s = c.args.file.now in
     let h = c.in_ok-header.header in
-    let q = c.header_fields.new.cursor in
+    let q = c.next_header.new.self in
     let reads : got (head_v h, c.in_ok-header.left) q.at ≡ heading s 0 = search rules in
     record {
       reads = reads;
-      kept = refl;
+      kept = search rules;
       few = search rules;
-      law = open_law s (λ i. (c.type_inv.file i).fits) (Ok (h, record { file = c.args.file; cursor = q; left = c.in_ok-header.left })) reads;
+      law = open_law s (λ i. (c.type_inv.file i).fits) (Ok (h, record { cursor = q; left = c.in_ok-header.left })) reads;
     }

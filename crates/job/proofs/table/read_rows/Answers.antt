@@ -1,52 +1,56 @@
-use Rattle.std.proofs.Common.{◌≡◌, suc, ◌+◌, ◌-◌, ◌<◌, [], ◌∷◌, ◌++◌, map, length, take, set, IfSome, Ok, sym, ap, ◌∙◌, subst, arith}
+use Rattle.std.proofs.Common.{◌≡◌, suc, ◌-◌, ◌<◌, [], ◌∷◌, ◌++◌, map, length, Ok, sym, ap, ◌∙◌, subst, arith}
 use Rattle.std.specs.Option.{option_map}
-use Rattle.std.proofs.lemmas.List.{take_more_set, map_push}
+use Rattle.std.proofs.lemmas.List.{map_push, length-append}
 use Rattle.std.proofs.lemmas.Result.{err_from_is_err_and}
 use Rattle.std.proofs.lemmas.Bool.{ltb-true}
 use Rattle.job.specs.Reading.{got, entry}
 use Rattle.job.specs.Resolved.{placed}
-use Rattle.job.specs.Rows.{row_v}
-use Rattle.job.specs.Views.{record_v, taken, Lies, Places}
-use Rattle.job.proofs.Entering.{lies_from}
+use Rattle.job.specs.Rows.{row_v, in_use}
+use Rattle.job.specs.Views.{record_v, taken}
 use Rattle.job.proofs.Many.{prepend, rest, opt_some, opt_fault, turn, stopped}
 use Rattle.job.proofs.table.read_rows.Goals as goal
+use Rattle.job.proofs.table.read_rows.Goals.{In-Some}
 
 pub returns-in_err-fields : goal.returns-in_err-fields
 returns-in_err-fields c =
     let p = err_from_is_err_and c.from_residual.result c.from_residual.ensures.1 in
     let l = c.loop-fields in
-    let s = c.args.records.now.file.now in
-    let same : l.records.file.now ≡ s = ap (λ f. f.now) l.invariant.1 in
-    let o = opt_fault _ entry l.records.file.now l.records.cursor.at _ _ c.in_err-fields.ensures.reads in
+    let at = l.records.cursor.at in
+    let r = c.in_err-fields.ensures.reads in
+    let same = ap (λ f. f.now) l.invariant.1 in
+    let o = opt_fault _ entry l.records.cursor.file.now at _ _ r.said in
     let more : 0 < l.records.left = ltb-true 0 l.records.left o.0 in
     let n : l.records.left ≡ suc (l.records.left - 1) = omega arith in
-    let e = stopped _ l.before l.records.left (l.records.left - 1) s l.records.cursor.at _ _ _ n (ap (λ t. entry t l.records.cursor.at) (sym same) ∙ o.1) l.invariant.0 in
-    rw (p.1, p.2) (record { reads = sym e })
+    let e = stopped _ l.before l.records.left (l.records.left - 1) c.args.records.now.cursor.file.now at _ _ _ n (ap (λ t. entry t at) (sym same) ∙ o.1) l.invariant.0 in
+    rw (p.1, p.2) (record { said = sym e; file = r.file ∙ l.invariant.1 })
+
+-- one record fewer is left
+one_less : (c : In-Some) → c.loop-fields.records.left ≡ suc c.next_record.new.self.left
+one_less c = let one : taken (Ok c.in_ok-fields.field-0) ≡ 1 = ap (λ t. taken (Ok t)) c.in-Some.is in omega (arith, c.in_ok-fields.ensures.left, one)
+
+pub push-requires : goal.push-requires
+push-requires c = omega (arith, c.loop-fields.invariant.2, one_less (goal.at.push-requires c).In-Some)
 
 pub loop-fields-preserved : goal.loop-fields-preserved
 loop-fields-preserved c =
     let l = c.loop-fields in
-    let s = c.args.records.now.file.now in
+    let s = c.args.records.now.cursor.file.now in
     let z = c.next_record.new.self in
-    let r = c.row_of-row.result in
-    let f = c.in-Some.fields in
-    let st = c.in_ok-fields.ensures in
-    let same : l.records.file.now ≡ s = ap (λ f. f.now) l.invariant.1 in
-    let o = opt_some _ entry l.records.file.now l.records.cursor.at _ (record_v f) z.cursor.at st.reads (ap (option_map record_v) c.in-Some.is) in
-    let e = record_v f in
-    let got_one = subst (λ t. entry t l.records.cursor.at ≡ got (record_v f) z.cursor.at) same o.1 in
-    let one : taken (Ok c.in_ok-fields.field-0) ≡ 1 = ap (λ t. taken (Ok t)) c.in-Some.is in
-    let n : l.records.left ≡ suc z.left = omega (arith, st.left, one) in
-    let room : l.n < length l.rows = omega (arith, c.requires.room, l.auto.rows, l.invariant.2, n) in
-    let places = subst (λ v. IfSome v (Places l.records.file.now l.records.cursor.at)) c.in-Some.is st.places in
-    let lies = subst (λ k. IfSome f.poses (Lies k)) same (lies_from l.records.file.now _ f.poses places.poses) in
-    let acc = map (row_v s) (take l.n l.rows) in
-    let means = c.row_of-row.ensures s lies in
-    let more : map (row_v s) (take (l.n + 1) (set l.rows l.n r)) ≡ acc ++ row_v s r ∷ [] = ap (map (row_v s)) (take_more_set l.rows l.n r room) ∙ map_push (row_v s) (take l.n l.rows) r in
-    let t = turn _ l.before l.records.left z.left s l.records.cursor.at acc e z.cursor.at n got_one l.invariant.0 in (
-      t ∙ ap (λ w. prepend (acc ++ w ∷ []) (rest (placed l.before e) z.left s z.cursor.at)) (sym means)
-          ∙ ap (λ a. prepend a (rest (placed l.before e) z.left s z.cursor.at)) (sym more)
-          ∙ ap (λ b. prepend (map (row_v s) (take (l.n + 1) (set l.rows l.n r))) (rest b z.left s z.cursor.at)) (sym (ap (λ w. w.position) means)),
-      st.kept ∙ l.invariant.1,
-      omega (arith, n, l.invariant.2),
+    let at = l.records.cursor.at in
+    let q = z.cursor.at in
+    let e = record_v c.in-Some.fields in
+    let row = c.row_of-row.result in
+    let r = c.in_ok-fields.ensures.reads in
+    let o = opt_some _ entry l.records.cursor.file.now at _ e q r.said (ap (option_map record_v) c.in-Some.is) in
+    let read = subst (λ t. entry t at ≡ got e q) (ap (λ f. f.now) l.invariant.1) o.1 in
+    let acc = map row_v (in_use l.table) in
+    let n = one_less (goal.at.loop-fields-preserved c).In-Some in
+    let means = c.row_of-row.ensures in
+    let more : map row_v (in_use c.push.new.self) ≡ acc ++ row_v row ∷ [] = ap (map row_v) c.push.ensures ∙ map_push row_v (in_use l.table) row in
+    let t = turn _ l.before l.records.left z.left s at acc e q n read l.invariant.0 in (
+      t ∙ ap (λ w. prepend (acc ++ w ∷ []) (rest (placed l.before e) z.left s q)) (sym means)
+          ∙ ap (λ a. prepend a (rest (placed l.before e) z.left s q)) (sym more)
+          ∙ ap (λ b. prepend (map row_v (in_use c.push.new.self)) (rest b z.left s q)) (sym (ap (λ w. w.position) means)),
+      r.file ∙ l.invariant.1,
+      omega (arith, n, l.invariant.2, ap length c.push.ensures, length-append (in_use l.table) (row ∷ [])),
     )

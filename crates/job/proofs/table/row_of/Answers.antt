@@ -1,25 +1,21 @@
-use Rattle.std.proofs.Common.{◌≡◌, ◌∷◌, length, sym, ap, ◌∙◌, arith}
-use Rattle.job.specs.Rows.{row_v}
+use Rattle.std.proofs.Common.{◌≡◌, [], ◌∷◌, refl, sym, ap, ◌∙◌, rules}
+use Rattle.std.specs.List.{fold}
+use Rattle.std.specs.Iterator.{YieldsFirstBy}
+use Rattle.std.proofs.lemmas.Fn.{fold_over}
+use Rattle.std.proofs.lemmas.Iterator.Consumers.{YieldsList-from_first}
+use Rattle.std.proofs.lemmas.List.Sums.{fold-append}
+use Rattle.job.specs.Rows.{row_v, entered}
 use Rattle.job.specs.Views.{unhanded, field_v}
-use Rattle.job.proofs.Entering.{all_entered, first_is, first_none, row_is, row_means}
+use Rattle.job.proofs.Entering.{bare, all_entered}
 use Rattle.job.proofs.table.row_of.Goals as goal
-
--- what was left to enter, when a field came
-split : (c : goal.After-with-row) → unhanded c.loop-field.fields ≡ field_v c.in-Some.field ∷ unhanded c.next_field.new.self
-split c =
-    first_is (unhanded c.loop-field.fields) (field_v c.in-Some.field) c.in-Some.ensures.field
-    ∙ ap (λ l. field_v c.in-Some.field ∷ l) (sym c.in-Some.ensures.others)
-
-pub loop-field-smaller : goal.loop-field-smaller
-loop-field-smaller c = omega (arith, ap length (split c))
-
-pub loop-field-preserved : goal.loop-field-preserved
-loop-field-preserved c =
-    ap (λ r. all_entered r (unhanded c.next_field.new.self)) c.with-row.ensures
-    ∙ ap (all_entered c.loop-field.row) (sym (split c)) ∙ c.loop-field.invariant
 
 pub returns : goal.returns
 returns c =
-    let none = first_none (unhanded c.loop-field.fields) c.in_default.ensures.field in
-    let e = ap (all_entered c.loop-field.row) (sym none) ∙ c.loop-field.invariant ∙ row_is c.args.before c.args.fields in
-    λ s h. ap (row_v s) e ∙ row_means s c.args.before c.args.fields h
+    let f = c.args.fields in
+    let p = c.args.before in
+    fold_over (YieldsFirstBy field_v unhanded) field_v _ (λ ys r. row_v r ≡ fold entered (bare p) ys) _
+    (λ ys a x b k i h.
+    let e : row_v b ≡ entered (row_v a) (field_v x) = search rules in
+    (e ∙ ap (λ v. entered v (field_v x)) i ∙ sym (fold-append entered (bare p) ys (field_v x ∷ [])), search rules))
+    f (unhanded f) c.bare.result c.fold.result (YieldsList-from_first field_v unhanded (unhanded f) refl).runs (search rules) c.fold.ensures.ran
+    ∙ all_entered p f
