@@ -1,5 +1,6 @@
 -- What an envelope passes, and when one is made. Assumes nothing.
-use Rattle.std.specs.Prelude.{ℕ, Bool, true, cond, ◌&&◌, List, [], ◌∷◌, ℤ, Ok, Err, Result, int_le}
+use Rattle.std.specs.Prelude.{ℕ, Bool, cond, ◌&&◌, List, ℤ, Ok, Err, Result, int_le}
+use Rattle.std.specs.List.{list_all}
 use Rattle.ladder.specs.declared.poses.Pose.{Pose}
 use Rattle.ladder.specs.declared.poses.Step.{Step}
 use Rattle.filters.specs.declared.envelopes.Span.{Span}
@@ -16,8 +17,7 @@ both_within s e p = within s p.shoulder && within e p.elbow
 
 -- each step has such a pose
 abbrev pub keeps_within : Span → Span → List Step → Bool
-keeps_within s e [] = true
-keeps_within s e (p ∷ ps) = both_within s e p.pose && keeps_within s e ps
+keeps_within s e steps = list_all (λ p. both_within s e p.pose) steps
 
 -- the answer to a making: the two spans, or a refusal by its number
 pub data Answer : Type 0 where
