@@ -8,7 +8,7 @@ use Rattle.std.proofs.lemmas.List.Prefix.{at_reads}
 use Rattle.std.proofs.lemmas.Int.{to_z-of_z, of_z-to_z}
 use Rattle.std.proofs.lemmas.Bool.{leb-true, le-leb, lt-leb, cases_lt}
 use Rattle.job.specs.declared.faults.Question.TheVariants.{Whole}
-use Rattle.job.specs.declared.values.Counts.{Counts}
+use Rattle.ladder.specs.declared.poses.Pose.{Pose}
 use Rattle.job.specs.Bytes.{byte_at, word_at, signed_word_at, poses_at, poses_of_bytes, word_bytes, signed_bytes, pose_bytes}
 use Rattle.job.specs.Reading.{got, fault, and_then, whole, via}
 use Rattle.job.proofs.Laws.{Bytes, fits_in, next}
@@ -104,7 +104,7 @@ part_tested n = whole_tested n (part_at n) (λ l. l) (λ l. (length l ≡ n) × 
     all_zero (suc m) = (omega arith, all_zero m)
 
 -- the poses of a list
-abbrev pub PoseFits : Counts → Type 0
+abbrev pub PoseFits : Pose → Type 0
 PoseFits c = SFits w16 c.shoulder × SFits w16 c.elbow
 
 poses_read : (n : ℕ) (s : List ℕ) (p : ℕ) → Bytes s → p + n * 4 ≤ length s → AllByRecursion PoseFits (poses_at s p n) × (drop p s ≡ flat_map pose_bytes (poses_at s p n) ++ drop (p + n * 4) s)
@@ -121,7 +121,7 @@ poses_read (suc n) s p bs h =
       a.1 ∙ ap (λ l. x ++ l) (b.1 ∙ ap (λ k. y ++ drop k s) two ∙ ap (λ l. y ++ l) (r.1 ∙ ap (λ k. flat_map pose_bytes (poses_at s (p + 4) n) ++ drop k s) end)),
     )
 
-poses_say : (l : List Counts) (s : List ℕ) (p : ℕ) (rest : List ℕ) → AllByRecursion PoseFits l → drop p s ≡ flat_map pose_bytes l ++ rest → poses_at s p (length l) ≡ l
+poses_say : (l : List Pose) (s : List ℕ) (p : ℕ) (rest : List ℕ) → AllByRecursion PoseFits l → drop p s ≡ flat_map pose_bytes l ++ rest → poses_at s p (length l) ≡ l
 poses_say [] s p rest f e = refl
 poses_say (c ∷ l) s p rest f e =
     let x = signed_bytes c.shoulder in
@@ -142,12 +142,12 @@ pub length_poses : (s : List ℕ) (p n : ℕ) → length (poses_at s p n) ≡ n
 length_poses s p zero = refl
 length_poses s p (suc n) = ap suc (length_poses s (p + 4) n)
 
-pub length_spelled : (l : List Counts) → length (flat_map pose_bytes l) ≡ length l * 4
+pub length_spelled : (l : List Pose) → length (flat_map pose_bytes l) ≡ length l * 4
 length_spelled [] = refl
 length_spelled (c ∷ l) = omega (arith, length_spelled l, length-append (pose_bytes c) (flat_map pose_bytes l))
 
 -- the poses of a part of n times four bytes
-abbrev pub list_at : ℕ → List ℕ → ℕ → List Counts
+abbrev pub list_at : ℕ → List ℕ → ℕ → List Pose
 list_at n s p = poses_of_bytes (take (n * 4) (drop p s))
 
 pub list_tested : (n : ℕ) → Tested (n * 4) (list_at n) (flat_map pose_bytes) (λ l. (length l ≡ n) × AllByRecursion PoseFits l) (λ s p. leb (p + n * 4) (length s)) (λ rest. leb (n * 4) (length rest))

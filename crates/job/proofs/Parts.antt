@@ -5,9 +5,9 @@ use Rattle.std.proofs.lemmas.List.{get_or-drop}
 use Rattle.std.proofs.lemmas.List.Prefix.{at_reads, at_from_reads}
 use Rattle.std.proofs.lemmas.Bool.{leb-true, le-leb, eqb-true, eq-eqb, and_parts, and_from, or_cases, cases_lt, both_ways, not_from_true}
 use Rattle.job.specs.declared.faults.Question.TheVariants.{Letters, Map, Whole, Range}
-use Rattle.job.specs.declared.values.StepLimits.{StepLimits}
+use Rattle.ladder.specs.declared.poses.Limits.{Limits}
 use Rattle.job.specs.declared.values.Arm.{Arm}
-use Rattle.job.specs.declared.values.Counts.{Counts}
+use Rattle.ladder.specs.declared.poses.Pose.{Pose}
 use Rattle.job.specs.Bytes.{byte_at, word_at, poses_of_bytes, pose_bytes, between, stands, lacks, bit}
 use Rattle.job.specs.Contents.{Entry, Head}
 use Rattle.job.specs.Layout.{has, lettered, the_letters, a_map, a_word, a_number, a_signed, a_count, a_length, a_part, entry_map, entry_pieces, head_map, head_pieces, EntryFits, HeadFits}
@@ -97,7 +97,7 @@ pub true_between : (low high n : ℕ) → low ≤ n → n ≤ high → between l
 true_between low high n a b = and_from (leb low n) (leb n high) (le-leb low n a) (le-leb n high b)
 
 -- a pose list after its count
-abbrev PosesFit : List Counts → Type 0
+abbrev PosesFit : List Pose → Type 0
 PosesFit l = (1 ≤ length l) × (length l ≤ 16) × AllByRecursion PoseFits l
 
 list_lawful : (n : ℕ) → Lawful (via (λ c. poses_of_bytes c.1) (chunk (n * 4))) (λ l. record { bytes = flat_map pose_bytes l; asks = has (n * 4) ∷ [] } ∷ []) (λ l. (length l ≡ n) × AllByRecursion PoseFits l)
@@ -230,7 +230,7 @@ head_told a b c =
     }
 
 -- a record
-abbrev from_entry : Entry → Option ℤ × (Option ℤ × (Option (List Counts) × Option (List ℕ)))
+abbrev from_entry : Entry → Option ℤ × (Option ℤ × (Option (List Pose) × Option (List ℕ)))
 from_entry e = (e.x, (e.y, (e.poses, e.note)))
 
 pub entry_lawful : Lawful entry entry_pieces EntryFits
@@ -274,7 +274,7 @@ entry_lawful = lawful_again entry entry_pieces EntryFits (λ s p. refl) (λ e w.
     told ∙ entry_bits m u.0 u.1))
 
 -- step limits
-abbrev LimitsFit : StepLimits → Type 0
+abbrev LimitsFit : Limits → Type 0
 LimitsFit l = (l.shoulder < 65536) × (l.elbow < 65536)
 
 limits_lawful : Lawful limits (λ l. a_word l.shoulder ∷ (a_word l.elbow ∷ [])) LimitsFit
@@ -315,7 +315,7 @@ ration_lawful = lawful_again ration _ RationFits (λ s p. refl) (λ k w. refl)
     (ranged_lawful 1 4096 refl)
 
 -- the header with the count of records
-abbrev from_head : Head × ℕ → Option StepLimits × (Option Arm × (Option ℕ × ℕ))
+abbrev from_head : Head × ℕ → Option Limits × (Option Arm × (Option ℕ × ℕ))
 from_head c = (c.0.limits, (c.0.arm, (c.0.ration, c.1)))
 
 pub heading_lawful : Lawful heading (λ c. head_pieces c.0 c.1) (λ c. HeadFits c.0 × (c.1 ≤ 128))

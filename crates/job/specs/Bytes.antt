@@ -2,7 +2,7 @@
 use Rattle.std.specs.Prelude.{ℕ, zero, suc, ◌+◌, ◌*◌, ◌/◌, ◌%◌, Bool, cond, not, ◌&&◌, List, [], ◌∷◌, ◌++◌, length, ℤ, ◌==◌, bit_and, nat_le, slice_index}
 use Rattle.std.proofs.Common.{to_z, of_z}
 use Rattle.std.specs.Int.{w16}
-use Rattle.job.specs.declared.values.Counts.{Counts}
+use Rattle.ladder.specs.declared.poses.Pose.{Pose}
 
 -- The byte at place p.
 abbrev pub byte_at : List ℕ → ℕ → ℕ
@@ -17,16 +17,16 @@ abbrev pub signed_word_at : List ℕ → ℕ → ℤ
 signed_word_at s p = to_z w16 (word_at s p)
 
 -- The pose of the four bytes at place p, the shoulder first.
-abbrev pub pose_at : List ℕ → ℕ → Counts
+abbrev pub pose_at : List ℕ → ℕ → Pose
 pose_at s p = record { shoulder = signed_word_at s p; elbow = signed_word_at s (p + 2) }
 
 -- The n poses from place p on.
-abbrev pub poses_at : List ℕ → ℕ → ℕ → List Counts
+abbrev pub poses_at : List ℕ → ℕ → ℕ → List Pose
 poses_at s p zero = []
 poses_at s p (suc n) = pose_at s p ∷ poses_at s (p + 4) n
 
 -- The poses that some bytes are, four bytes each.
-abbrev pub poses_of_bytes : List ℕ → List Counts
+abbrev pub poses_of_bytes : List ℕ → List Pose
 poses_of_bytes l = poses_at l 0 (length l / 4)
 
 -- The two bytes of an unsigned number.
@@ -38,7 +38,7 @@ abbrev pub signed_bytes : ℤ → List ℕ
 signed_bytes z = word_bytes (of_z w16 z)
 
 -- The four bytes of a pose.
-abbrev pub pose_bytes : Counts → List ℕ
+abbrev pub pose_bytes : Pose → List ℕ
 pose_bytes c = signed_bytes c.shoulder ++ signed_bytes c.elbow
 
 -- Is n a number from low to high?

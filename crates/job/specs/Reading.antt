@@ -2,9 +2,9 @@
 use Rattle.std.specs.Prelude.{ℕ, zero, suc, ◌+◌, ◌*◌, Bool, cond, ◌&&◌, List, [], ◌∷◌, length, take, drop, ℤ, Some, None, Option, ◌==◌, nat_le, slice_index}
 use Rattle.job.specs.declared.faults.Question.{Question}
 use Rattle.job.specs.declared.faults.Question.TheVariants.{Letters, Map, Whole, Range, End}
-use Rattle.job.specs.declared.values.StepLimits.{StepLimits}
+use Rattle.ladder.specs.declared.poses.Limits.{Limits}
 use Rattle.job.specs.declared.values.Arm.{Arm}
-use Rattle.job.specs.declared.values.Counts.{Counts}
+use Rattle.ladder.specs.declared.poses.Pose.{Pose}
 use Rattle.job.specs.Bytes.{byte_at, word_at, signed_word_at, poses_of_bytes, between, stands, lacks}
 use Rattle.job.specs.Contents.{Entry, Head, Contents}
 
@@ -66,13 +66,13 @@ chunk n = whole n (λ s p. (p, take n (drop p s)))
 abbrev pub ranged : ℕ → ℕ → Read ℕ
 ranged low high = only Range (between low high) word
 
-abbrev pub poses : Read (List Counts)
+abbrev pub poses : Read (List Pose)
 poses = under (only Range (between 1 16) byte) (λ n. via (λ c. poses_of_bytes c.1) (chunk (n * 4)))
 
 abbrev pub note : Read (List ℕ)
 note = under byte (λ n. via (λ c. c.1) (chunk n))
 
-abbrev pub to_entry : Option ℤ × (Option ℤ × (Option (List Counts) × Option (List ℕ))) → Entry
+abbrev pub to_entry : Option ℤ × (Option ℤ × (Option (List Pose) × Option (List ℕ))) → Entry
 to_entry c = record { x = c.0; y = c.1.0; poses = c.1.1.0; note = c.1.1.1 }
 
 -- The fields that a record's map m names.
@@ -94,10 +94,10 @@ letters s p = cond (letters_at s p) (got tt (p + 4)) (fault Letters p)
 abbrev pub opening : Read ℕ
 opening = under letters (λ _. only Map (lacks 248) byte)
 
-abbrev pub to_limits : ℕ × ℕ → StepLimits
+abbrev pub to_limits : ℕ × ℕ → Limits
 to_limits c = record { shoulder = c.0; elbow = c.1 }
 
-abbrev pub limits : Read StepLimits
+abbrev pub limits : Read Limits
 limits = via to_limits (pair word word)
 
 abbrev pub to_arm : ℕ × (ℕ × ℕ) → Arm
@@ -109,7 +109,7 @@ arm = via to_arm (pair (ranged 1 2000) (pair (ranged 1 2000) (ranged 0 2000)))
 abbrev pub ration : Read ℕ
 ration = ranged 1 4096
 
-abbrev pub to_head : Option StepLimits × (Option Arm × (Option ℕ × ℕ)) → Head × ℕ
+abbrev pub to_head : Option Limits × (Option Arm × (Option ℕ × ℕ)) → Head × ℕ
 to_head c = (record { limits = c.0; arm = c.1.0; ration = c.1.1.0 }, c.1.1.1)
 
 -- The fields that the header's map m names, and the count of records.

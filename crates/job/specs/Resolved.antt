@@ -2,15 +2,15 @@
 use Rattle.std.specs.Prelude.{ℕ, List, [], ◌∷◌, pos, Option}
 use Rattle.std.specs.Option.{unwrap_or, option_map, option_flatten}
 use Rattle.std.specs.List.{slice_get}
-use Rattle.job.specs.declared.values.StepLimits.{StepLimits}
+use Rattle.ladder.specs.declared.poses.Limits.{Limits}
 use Rattle.job.specs.declared.values.Arm.{Arm}
-use Rattle.job.specs.declared.values.Counts.{Counts}
+use Rattle.ladder.specs.declared.poses.Pose.{Pose}
 use Rattle.job.specs.declared.values.Position.{Position}
 use Rattle.job.specs.Contents.{Entry, Contents}
 use Rattle.job.specs.Reading.{job_of}
 
 -- The step limits: 65,535 each where none are written.
-abbrev pub limits_of : Contents → StepLimits
+abbrev pub limits_of : Contents → Limits
 limits_of j = unwrap_or j.head.limits (record { shoulder = 65535; elbow = 65535 })
 
 -- The ration: 4,096 where none is written.
@@ -24,7 +24,7 @@ placed p e = record { x = unwrap_or e.x p.x; y = unwrap_or e.y p.y }
 -- A waypoint: where it lies, and its pose list, which is empty where none is written.
 pub record Waypoint : Type 0 where
   pub position : Position
-  pub poses : List Counts
+  pub poses : List Pose
 
 -- The waypoint of a record that follows one at position p.
 abbrev pub waypoint : Position → Entry → Waypoint
@@ -44,7 +44,7 @@ waypoints_of j = waypoints origin j.records
 
 -- All of them together.
 pub record Resolved : Type 0 where
-  pub limits : StepLimits
+  pub limits : Limits
   pub arm : Option Arm
   pub ration : ℕ
   pub waypoints : List Waypoint
@@ -57,7 +57,7 @@ abbrev pub position_in : Resolved → ℕ → Option Position
 position_in r w = option_map (λ v. v.position) (slice_get r.waypoints w)
 
 -- The pose list of waypoint w; empty where there is no such record.
-abbrev pub poses_in : Resolved → ℕ → List Counts
+abbrev pub poses_in : Resolved → ℕ → List Pose
 poses_in r w = unwrap_or (option_map (λ v. v.poses) (slice_get r.waypoints w)) []
 
 -- The values that a file's job works with; none where the file is refused.
@@ -73,5 +73,5 @@ abbrev pub position_of : List ℕ → ℕ → Option Position
 position_of s w = option_flatten (option_map (λ r. position_in r w) (values_of s))
 
 -- The pose list of waypoint w of a file; empty where there is none or the file is refused.
-abbrev pub poses_of : List ℕ → ℕ → List Counts
+abbrev pub poses_of : List ℕ → ℕ → List Pose
 poses_of s w = unwrap_or (option_map (λ r. poses_in r w) (values_of s)) []

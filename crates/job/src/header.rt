@@ -7,12 +7,13 @@ ghost use Rattle.job.specs.Views.{answer, begun, opened, head_v};
 use crate::cursor::Cursor;
 use crate::faults::{Fault, Question};
 use crate::records::Records;
-use crate::values::{Arm, StepLimits};
+use crate::values::Arm;
+use ladder::poses::Limits;
 
 // What a file says before its records; a value that is not written is None.
 #[derive(Clone, Copy)]
 pub struct Header {
-    pub limits: Option<StepLimits>,
+    pub limits: Option<Limits>,
     pub arm: Option<Arm>,
     pub ration: Option<u16>,
 }
@@ -47,7 +48,7 @@ fn begin(file: &[u8]) -> Result<(u8, Cursor), Fault>
     }
 }
 
-fn limits_field(cursor: &mut Cursor, file: &[u8], map: u8) -> Result<Option<StepLimits>, Fault>
+fn limits_field(cursor: &mut Cursor, file: &[u8], map: u8) -> Result<Option<Limits>, Fault>
     ensures reads { answer (λ v. v) result cursor.new.at ≡ opt (stands map 1) limits file.now cursor.old.at }
 {
     if map & 1 == 0 {
@@ -55,7 +56,7 @@ fn limits_field(cursor: &mut Cursor, file: &[u8], map: u8) -> Result<Option<Step
     }
     let shoulder = cursor.next_word(file)?;
     let elbow = cursor.next_word(file)?;
-    Ok(Some(StepLimits { shoulder, elbow }))
+    Ok(Some(Limits { shoulder, elbow }))
 }
 
 fn arm_field(cursor: &mut Cursor, file: &[u8], map: u8) -> Result<Option<Arm>, Fault>

@@ -7,13 +7,14 @@ ghost use Rattle.job.specs.Rows.{row_v};
 ghost use Rattle.job.specs.Jobs.{view};
 
 use crate::rows::Row;
-use crate::values::{Arm, Counts, Position, StepLimits};
+use crate::values::{Arm, Position};
+use ladder::poses::{Limits, Pose};
 
 // A job that was read: its values, and its pose lists where they lie in the file.
 #[derive(Clone, Copy)]
 pub struct Job<'a> {
     pub(crate) file: &'a [u8],
-    pub(crate) limits: StepLimits,
+    pub(crate) limits: Limits,
     pub(crate) arm: Option<Arm>,
     pub(crate) ration: u16,
     pub(crate) len: u16,
@@ -39,7 +40,7 @@ fn signed_at(bytes: &[u8], at: usize) -> i16
 
 impl<'a> Job<'a> {
     // The step limits.
-    pub fn limits(&self) -> StepLimits
+    pub fn limits(&self) -> Limits
         ensures { result ≡ (view self.now).limits }
     {
         self.limits
@@ -102,14 +103,14 @@ impl<'a> Job<'a> {
     }
 
     // Pose j of waypoint w, if it has so many.
-    pub fn pose(&self, w: u16, j: usize) -> Option<Counts>
+    pub fn pose(&self, w: u16, j: usize) -> Option<Pose>
         ensures { result ≡ slice_get (poses_in (view self.now) w) j }
     {
         let list = self.list(w);
         if j >= list.len() / 4 {
             return None;
         }
-        Some(Counts {
+        Some(Pose {
             shoulder: signed_at(list, 4 * j),
             elbow: signed_at(list, 4 * j + 2),
         })

@@ -11,7 +11,8 @@ use crate::header::open;
 use crate::jobs::Job;
 use crate::rows::Row;
 use crate::table::read_rows;
-use crate::values::{Position, StepLimits};
+use crate::values::Position;
+use ladder::poses::Limits;
 
 // The job of a whole file, from its header, its records and its end.
 fn scan<'a>(file: &'a [u8]) -> Result<Job<'a>, Fault>
@@ -19,7 +20,7 @@ fn scan<'a>(file: &'a [u8]) -> Result<Job<'a>, Fault>
     ensures stops { IfErr result (λ e. file_out file.now ≡ fault e.question e.place) }
 {
     let (header, mut records) = open(file)?;
-    let limits = header.limits.unwrap_or(StepLimits {
+    let limits = header.limits.unwrap_or(Limits {
         shoulder: 65535,
         elbow: 65535,
     });

@@ -1,9 +1,10 @@
+use ladder::poses::{Limits, Pose};
+
 // How far each joint may turn in one move.
-#[derive(Clone, Copy)]
-pub struct StepLimits {
-    pub shoulder: u16,
-    pub elbow: u16,
-}
+pub type StepLimits = Limits;
+
+// One pose of a pose list: the detent counts of the two joints.
+pub type Counts = Pose;
 
 // The arm's two link lengths and the half side of the window around a position.
 #[derive(Clone, Copy)]
@@ -18,11 +19,4 @@ pub struct Arm {
 pub struct Position {
     pub x: i16,
     pub y: i16,
-}
-
-// One pose of a pose list: the detent counts of the two joints.
-#[derive(Clone, Copy)]
-pub struct Counts {
-    pub shoulder: i16,
-    pub elbow: i16,
 }
