@@ -1,5 +1,4 @@
 mod Products
-mod Nearness
 mod Scans
 mod Shown
 mod Rising
