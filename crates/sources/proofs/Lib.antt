@@ -1,4 +1,3 @@
-mod Products
 mod Scans
 mod Shown
 mod Rising

@@ -5,6 +5,7 @@ use Rattle.ladder.specs.declared.poses.Pose.{Pose}
 use Rattle.job.specs.declared.values.Arm.{Arm}
 use Rattle.job.specs.declared.values.Position.{Position}
 use Rattle.job.specs.Resolved.{Resolved, position_in, poses_in, arm_of, position_of, poses_of}
+use Rattle.sources.specs.declared.targets.Target.{Target}
 use Rattle.sources.specs.Reach.{reaching}
 use Rattle.sources.specs.Offers.{Offers}
 
@@ -17,6 +18,11 @@ abbrev pub reached : Option Arm → Option Position → List Pose
 reached None at = []
 reached (Some a) None = []
 reached (Some a) (Some at) = reaching a at
+
+-- the poses that reach a target; none where there is no target
+abbrev pub reached_by : Option Target → List Pose
+reached_by None = []
+reached_by (Some t) = reaching t.arm t.at
 
 -- by the arm: the poses of the file's arm that reach waypoint w
 abbrev pub armed : List ℕ → ℕ → List Pose

@@ -4,5 +4,4 @@ pub mod Offers
 pub mod Files
 pub mod Pages
 pub mod Memories
-pub mod Targets
 pub mod Cases

@@ -2,9 +2,8 @@
 ghost use Rattle.std.specs.Prelude.{◌≡◌};
 ghost use Rattle.std.specs.Option.{option_map};
 ghost use Rattle.job.specs.Jobs.{view};
-ghost use Rattle.sources.specs.Files.{armed, armed_in, OffersFor};
+ghost use Rattle.sources.specs.Files.{armed, armed_in, reached_by, OffersFor};
 ghost use Rattle.sources.specs.Pages.{Shows, Covers};
-ghost use Rattle.sources.specs.Targets.{reached_by};
 
 use crate::arms::{Armed, Memory};
 use crate::asking::Source;

@@ -1,6 +1,6 @@
 // Which poses bring the end of an arm to a position.
 ghost use Rattle.std.specs.Prelude.{◌≡◌, ◌^◌, ◌<◌, pos, ◌*ℤ◌, unsigned_abs};
-ghost use Rattle.sources.specs.Reach.{off, near, reaching_pose};
+ghost use Rattle.sources.specs.Reach.{near, reaching_pose};
 
 use crate::directions::{cosine_of, sine_of};
 use job::{Arm, Position};
@@ -10,22 +10,15 @@ fn scaled(link: u16, part: i32) -> i64
     ensures value { result ≡ pos link *ℤ part }
     ensures bound { unsigned_abs result < 2 ^ 48 }
 {
-    link as i64 * part as i64
+    i64::from(link) * i64::from(part)
 }
 
-// How far one coordinate of the arm's end is off x, from those of its two links' directions.
-fn off_by(arm: Arm, first: i32, second: i32, x: i16) -> u64
-    ensures { result ≡ off arm first second x }
-{
-    let end = scaled(arm.first, first) + scaled(arm.second, second);
-    end.abs_diff(10_000 * x as i64)
-}
-
-// Whether it lies in the window around x.
+// Whether one coordinate of the arm's end lies in the window around x, by those of its two links' directions.
 fn is_near(arm: Arm, first: i32, second: i32, x: i16) -> bool
     ensures { result ≡ near arm first second x }
 {
-    off_by(arm, first, second, x) <= 10_000 * arm.window as u64
+    let end = scaled(arm.first, first) + scaled(arm.second, second);
+    end.abs_diff(10_000 * i64::from(x)) <= 10_000 * u64::from(arm.window)
 }
 
 // Whether shoulder s and elbow e bring the arm's end into the window around a position.
