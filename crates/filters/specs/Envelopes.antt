@@ -1,5 +1,7 @@
 -- What an envelope passes, and when one is made. Assumes nothing.
-use Rattle.std.specs.Prelude.{ℕ, Bool, true, cond, ◌&&◌, List, [], ◌∷◌, ℤ, Ok, Err, Result, int_le}
+use Rattle.std.specs.Prelude.{ℕ, Bool, cond, ◌&&◌, List, ℤ, Ok, Err, Result, int_le}
+use Rattle.std.specs.List.{list_all}
+use Rattle.std.specs.Result.{result_map_both}
 use Rattle.ladder.specs.declared.poses.Pose.{Pose}
 use Rattle.ladder.specs.declared.poses.Step.{Step}
 use Rattle.filters.specs.declared.envelopes.Span.{Span}
@@ -16,23 +18,16 @@ both_within s e p = within s p.shoulder && within e p.elbow
 
 -- each step has such a pose
 abbrev pub keeps_within : Span → Span → List Step → Bool
-keeps_within s e [] = true
-keeps_within s e (p ∷ ps) = both_within s e p.pose && keeps_within s e ps
-
--- the answer to a making: the two spans, or a refusal by its number
-pub data Answer : Type 0 where
-  envelope : Span × Span → Answer
-  refused : ℕ → Answer
+keeps_within s e steps = list_all (λ p. both_within s e p.pose) steps
 
 -- the number of a refusal
 abbrev pub refusal_number : Refusal → ℕ
 refusal_number LowAboveHigh = 16
 
--- what a making answered, where an envelope stands for its spans
-abbrev pub made : {E : Type 0} → (E → Span × Span) → Result E Refusal → Answer
-made spans (Ok e) = envelope (spans e)
-made spans (Err x) = refused (refusal_number x)
+-- what a making answered: an envelope by its spans, or a refusal by its number
+abbrev pub made : {E : Type 0} → (E → Span × Span) → Result E Refusal → Result (Span × Span) ℕ
+made spans answered = result_map_both spans refusal_number answered
 
 -- two spans whose lows are at most their highs are made an envelope, and others are refused
-abbrev pub due : Span → Span → Answer
-due s e = cond (int_le s.low s.high && int_le e.low e.high) (envelope (s, e)) (refused 16)
+abbrev pub due : Span → Span → Result (Span × Span) ℕ
+due s e = cond (int_le s.low s.high && int_le e.low e.high) (Ok (s, e)) (Err 16)

@@ -1,9 +1,7 @@
 // Cases worked by hand.
 ghost use Rattle.filters.specs.Cases.{Worked};
 
-// The worked cases hold of the definitions.
-pub fn reversals_worked() -> u8
+// The worked cases hold of the definitions. A call does nothing: its contract is the theorem.
+pub fn reversals_worked()
     ensures { Worked }
-{
-    0
-}
+{}

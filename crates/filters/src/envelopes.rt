@@ -6,7 +6,7 @@ use crate::judging::Filter;
 use ladder::poses::{Pose, Step};
 
 // The lowest and the highest count that a joint may have, both counted in.
-#[derive(Clone, Copy)]
+#[derive(Clone, Copy, PartialEq, Eq, Debug)]
 pub struct Span {
     pub low: i16,
     pub high: i16,
@@ -17,14 +17,14 @@ impl Span {
     pub fn holds(self, count: i16) -> bool
         ensures { result ≡ within self count }
     {
-        self.low <= count && count <= self.high
+        (self.low..=self.high).contains(&count)
     }
 }
 
 // Why an envelope is not made: a low end lies above its high end.
-#[derive(Clone, Copy)]
+#[derive(Clone, Copy, PartialEq, Eq, Debug)]
 pub enum Refusal {
-    LowAboveHigh,
+    LowAboveHigh = 16,
 }
 
 impl Refusal {
@@ -32,14 +32,12 @@ impl Refusal {
     pub fn number(self) -> u8
         ensures { result ≡ refusal_number self }
     {
-        match self {
-            Refusal::LowAboveHigh => 16,
-        }
+        self as u8
     }
 }
 
 // Passes the steps whose shoulders and elbows all lie within their spans. No span runs backward.
-#[derive(Clone, Copy)]
+#[derive(Clone, Copy, PartialEq, Eq, Debug)]
 pub struct Envelope {
     shoulder: Span,
     elbow: Span,
@@ -52,10 +50,7 @@ impl Envelope {
     pub fn new(shoulder: Span, elbow: Span) -> Result<Envelope, Refusal>
         ensures { made (λ e. (e.shoulder, e.elbow)) result ≡ due shoulder elbow }
     {
-        if shoulder.low > shoulder.high {
-            return Err(Refusal::LowAboveHigh);
-        }
-        if elbow.low > elbow.high {
+        if shoulder.low > shoulder.high || elbow.low > elbow.high {
             return Err(Refusal::LowAboveHigh);
         }
         Ok(Envelope { shoulder, elbow })
@@ -69,22 +64,10 @@ impl Envelope {
     }
 }
 
-// Whether the poses of all steps lie within an envelope.
-fn all_within(envelope: &Envelope, steps: &[Step]) -> bool
-    ensures { result ≡ keeps_within envelope.now.shoulder envelope.now.elbow steps.now }
-{
-    for step in steps {
-        if !envelope.holds(step.pose) {
-            return false;
-        }
-    }
-    true
-}
-
 impl Filter for Envelope {
     ghost passes = { λ e. keeps_within e.shoulder e.elbow };
 
     fn judge(&mut self, steps: &[Step]) -> bool {
-        all_within(self, steps)
+        steps.iter().all(|step| self.holds(step.pose))
     }
 }

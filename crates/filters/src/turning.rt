@@ -7,16 +7,16 @@ use crate::judging::Filter;
 use ladder::poses::Step;
 
 // Passes the steps with at most this many reversals of the shoulder.
-#[derive(Clone, Copy)]
+#[derive(Clone, Copy, PartialEq, Eq, Debug)]
 pub struct TurnCount {
     pub limit: u16,
 }
 
-// The shoulder's count, its last turn, which is 0 before the first, and the reversals so far.
+// The shoulder's count, its last turn if it has turned, and the reversals so far.
 #[derive(Clone, Copy)]
 struct Tally {
     shoulder: i16,
-    turn: i32,
+    turn: Option<i32>,
     reversals: usize,
 }
 
@@ -31,7 +31,7 @@ fn difference(from: i16, to: i16) -> i32
 fn opposes(a: i32, b: i32) -> bool
     ensures { result ≡ opposite a b }
 {
-    if a > 0 { b < 0 } else { a < 0 && b > 0 }
+    (a > 0 && b < 0) || (a < 0 && b > 0)
 }
 
 impl Tally {
@@ -45,10 +45,10 @@ impl Tally {
         if turn == 0 {
             return;
         }
-        if opposes(self.turn, turn) {
+        if self.turn.is_some_and(|last| opposes(last, turn)) {
             self.reversals += 1;
         }
-        self.turn = turn;
+        self.turn = Some(turn);
     }
 }
 
@@ -56,15 +56,15 @@ impl Tally {
 fn reversals(steps: &[Step]) -> usize
     ensures { result ≡ turned_back steps.now }
 {
-    if steps.is_empty() {
+    let [first, rest @ ..] = steps else {
         return 0;
-    }
+    };
     let mut tally = Tally {
-        shoulder: steps[0].pose.shoulder,
-        turn: 0,
+        shoulder: first.pose.shoulder,
+        turn: None,
         reversals: 0,
     };
-    for step in &steps[1..] {
+    for step in rest {
         tally.go_on(step.pose.shoulder);
     }
     tally.reversals

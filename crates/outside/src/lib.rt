@@ -22,11 +22,7 @@ impl<'a> Source for Fixed<'a> {
     }
 
     fn pose(&mut self, _waypoint: u16, number: usize) -> Option<Pose> {
-        if number < self.poses.len() {
-            Some(self.poses[number])
-        } else {
-            None
-        }
+        self.poses.get(number).copied()
     }
 }
 
@@ -52,7 +48,7 @@ impl<S: Source> Source for Asked<S> {
 }
 
 // Passes the lists of at most so many steps, and counts what it judged.
-#[derive(Clone, Copy)]
+#[derive(Clone, Copy, PartialEq, Eq, Debug)]
 pub struct AtMost {
     pub steps: usize,
     pub judged: u64,
@@ -95,10 +91,9 @@ mod tests {
     use std::test::Fail;
 
     fn at<S: Source>(source: &mut S, waypoint: u16, number: usize) -> Option<(i16, i16)> {
-        match source.pose(waypoint, number) {
-            Some(pose) => Some((pose.shoulder, pose.elbow)),
-            None => None,
-        }
+        source
+            .pose(waypoint, number)
+            .map(|pose| (pose.shoulder, pose.elbow))
     }
 
     // links of 100, a window of h, and the positions (100,100), (0,0) and (201,0)

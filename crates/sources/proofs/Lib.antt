@@ -1,5 +1,3 @@
-mod Products
-mod Nearness
 mod Scans
 mod Shown
 mod Rising

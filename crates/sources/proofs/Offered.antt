@@ -1,7 +1,7 @@
 -- The poses that reach, as listed, are what the arm offers. Assumes nothing.
-use Rattle.std.proofs.Common.{◌≡◌, ℕ, zero, suc, ◌+◌, ◌<◌, ◌≤◌, Bool, true, false, cond, List, [], ◌∷◌, pos, ◌<ℤ◌, Some, None, filter, Option, sym, refl, ap, subst, inl, inr, arith}
-use Rattle.std.specs.List.{range_with_len, ContainsAt as Has, flat_map, AllByRecursion}
-use Rattle.std.proofs.ByRecursion.{all-has, All-map, All-weaker}
+use Rattle.std.proofs.Common.{◌≡◌, ℕ, zero, suc, ◌+◌, ◌<◌, ◌≤◌, true, List, pos, ◌<ℤ◌, Some, None, filter, get_or, Option, sym, refl, ap, subst, inl, inr, arith}
+use Rattle.std.specs.List.{range_with_len, All, Contains, flat_map}
+use Rattle.std.proofs.lemmas.List.Elements.{All-contains, All-map, All-weaker, All-filter, filter_passes}
 use Rattle.std.proofs.lemmas.Int.{ints}
 use Rattle.std.proofs.lemmas.Bool.{and_parts, and_from, leb-true, le-leb}
 use Rattle.job.specs.declared.values.Arm.{Arm}
@@ -27,17 +27,14 @@ module _ (a : Arm) (at : Position) where
   abbrev InRow : ℕ → Pose → Type 0
   InRow s p = (e : ℕ) × (p ≡ pose s e) × Reaches a at s e
 
-  InRowOne : (s e : ℕ) (b : Bool) (ps : List ℕ) → (b ≡ true → InRow s (pose s e)) → AllByRecursion (λ f. InRow s (pose s f)) ps → AllByRecursion (λ f. InRow s (pose s f)) (cond b (e ∷ ps) ps)
-  InRowOne s e true ps h t = (h refl, t)
-  InRowOne s e false ps h t = t
-
-  elbows : (s : ℕ) → s < 64 → (es : List ℕ) → AllByRecursion (λ e. e < 64) es → AllByRecursion (λ e. InRow s (pose s e)) (filter (reaching_pose a at s) es)
-  elbows s h [] t = tt
-  elbows s h (e ∷ es) t =
-      InRowOne s e (reaching_pose a at s e) (filter (reaching_pose a at s) es) (λ q. (e, refl, means s e h t.0 q)) (elbows s h es t.1)
+  elbows : (s : ℕ) → s < 64 → (es : List ℕ) → All (λ e. e < 64) es → All (λ e. InRow s (pose s e)) (filter (reaching_pose a at s) es)
+  elbows s h es below k d l =
+      let kept = filter (reaching_pose a at s) es in
+      let e = get_or kept k d in
+      (e, refl, means s e h (All-filter (reaching_pose a at s) (λ e. e < 64) es below k d l) (filter_passes (reaching_pose a at s) es k d l))
 
   -- rows and lists up to some elbow or shoulder
-  in_row : (s n : ℕ) → s < 64 → n ≤ 64 → AllByRecursion (InRow s) (row a at s n)
+  in_row : (s n : ℕ) → s < 64 → n ≤ 64 → All (InRow s) (row a at s n)
   unfolding row
   in_row s n h k =
       All-map (InRow s) (pose s) (filter (reaching_pose a at s) (range_with_len 0 n)) (elbows s h (range_with_len 0 n) (all_counting (λ e. e < 64) 0 n (λ e p q. omega arith)))
@@ -59,7 +56,7 @@ module _ (a : Arm) (at : Position) where
   abbrev whole : ℕ → List Pose
   whole s = row a at s 64
 
-  in_whole : (s : ℕ) → s < 64 → AllByRecursion (InRow s) (whole s)
+  in_whole : (s : ℕ) → s < 64 → All (InRow s) (whole s)
   in_whole s h = in_row s 64 h (omega arith)
 
   -- the shoulders from s on, n of them
@@ -67,9 +64,9 @@ module _ (a : Arm) (at : Position) where
   from_rise s zero h = tt
   from_rise s (suc n) h =
       rising_append Before (whole s) (flat_map whole (range_with_len (s + 1) n)) (row_rises s 64) (from_rise (s + 1) n (omega arith))
-      (All-weaker (InRow s) (λ p. AllByRecursion (Before p) (flat_map whole (range_with_len (s + 1) n)))
+      (All-weaker (InRow s) (λ p. All (Before p) (flat_map whole (range_with_len (s + 1) n)))
       (λ p k. all_joined (Before p) whole (range_with_len (s + 1) n)
-      (all_counting (λ u. AllByRecursion (Before p) (whole u)) (s + 1) n
+      (all_counting (λ u. All (Before p) (whole u)) (s + 1) n
       (λ u l m. All-weaker (InRow u) (Before p) (λ q j. rows_apart s u p q (omega arith) k j) (whole u) (in_whole u (omega arith)))))
       (whole s) (in_whole s (omega arith)))
 
@@ -80,27 +77,27 @@ module _ (a : Arm) (at : Position) where
   abbrev Reached : Pose → Type 0
   Reached p = (s : ℕ) × (e : ℕ) × (p ≡ pose s e) × Reaches a at s e
 
-  rows_reach : (n : ℕ) → n ≤ 64 → AllByRecursion Reached (rows a at n)
+  rows_reach : (n : ℕ) → n ≤ 64 → All Reached (rows a at n)
   unfolding rows
   rows_reach n h =
       all_joined Reached whole (range_with_len 0 n)
-      (all_counting (λ s. AllByRecursion Reached (whole s)) 0 n
+      (all_counting (λ s. All Reached (whole s)) 0 n
       (λ s p q. All-weaker (InRow s) Reached (λ x k. (s, k.0, k.1, k.2)) (whole s) (in_whole s (omega arith))))
 
   -- every pose that reaches is there
-  in_a_row : (s e n : ℕ) → e < n → Reaches a at s e → Has (row a at s n) (pose s e)
+  in_a_row : (s e n : ℕ) → e < n → Reaches a at s e → Contains (row a at s n) (pose s e)
   unfolding row
   in_a_row s e n h r =
       has_map (pose s) (filter (reaching_pose a at s) (range_with_len 0 n)) e (has_kept_by (reaching_pose a at s) (range_with_len 0 n) e (passes s e r) (has_counting n e h))
 
-  in_rows : (s e n : ℕ) → s < n → Reaches a at s e → Has (rows a at n) (pose s e)
+  in_rows : (s e n : ℕ) → s < n → Reaches a at s e → Contains (rows a at n) (pose s e)
   unfolding rows
   in_rows s e n h r = has_joined whole (range_with_len 0 n) s (pose s e) (has_counting n s h) (in_a_row s e 64 r.elbow r)
 
   pub offers : Offers a at (reaching a at)
   offers = record {
     every = λ s e r. in_rows s e 64 r.shoulder r;
-    only = λ p h. all-has Reached (reaching a at) p (rows_reach 64 (omega arith)) h;
+    only = λ p h. All-contains Reached (reaching a at) p (rows_reach 64 (omega arith)) h;
     rising = λ i j d h k. rising_get_or Before (reaching a at) i j d (rows_rise 64 (omega arith)) h k;
   }
 
@@ -119,8 +116,8 @@ pub offers_one : (a : Arm) (at : Position) (ps qs : List Pose) → Offers a at p
 offers_one a at ps qs o u =
     same_rising Before never_before one_way ps qs (rising_from_get_or Before ps o.rising) (rising_from_get_or Before qs u.rising) (has a at ps qs o u) (has a at qs ps u o)
   where
-    has : (a : Arm) (at : Position) (ps qs : List Pose) → Offers a at ps → Offers a at qs → (p : Pose) → Has ps p → Has qs p
-    has a at ps qs o u p h = let k = o.only p h in subst (Has qs) (sym k.2) (u.every k.0 k.1 k.3)
+    has : (a : Arm) (at : Position) (ps qs : List Pose) → Offers a at ps → Offers a at qs → (p : Pose) → Contains ps p → Contains qs p
+    has a at ps qs o u p h = let k = o.only p h in subst (Contains qs) (sym k.2) (u.every k.0 k.1 k.3)
 
 -- what an arm offers for a position, where there is an arm and a position
 pub reached_offered : (a : Option Arm) (at : Option Position) → Offered a at (reached a at)

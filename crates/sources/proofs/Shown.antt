@@ -1,6 +1,7 @@
 -- What stands on the page of a list. Assumes nothing.
-use Rattle.std.proofs.Common.{◌≡◌, ℕ, ◌+◌, ◌-◌, ◌<◌, ◌≤◌, Bool, true, false, cond, ltb, List, [], ◌∷◌, ◌++◌, length, get_or, set, Some, None, fold, sym, refl, ap, ◌∙◌, subst, ⊎_elim, arith}
+use Rattle.std.proofs.Common.{◌≡◌, ℕ, ◌+◌, ◌-◌, ◌<◌, ◌≤◌, Bool, true, false, cond, ltb, List, [], ◌∷◌, ◌++◌, length, get_or, set, Some, None, Option, fold, sym, refl, ap, ◌∙◌, subst, ⊎_elim, arith}
 use Rattle.std.specs.List.{slice_get}
+use Rattle.std.specs.Option.{is_some, IfSome}
 use Rattle.std.proofs.lemmas.List.{append-nil, append_assoc, length_push, length-set, length-replicate, get_or-set_same, get_or-set_other, get_or_push, get_or_append_left}
 use Rattle.std.proofs.lemmas.Option.{slice_get-get_or, slice_get_past}
 use Rattle.std.proofs.lemmas.Bool.{ltb-true, ltb-false, cases_eq}
@@ -55,14 +56,17 @@ held g ps e = subst (λ h. Holds h ps) (sym e) (all_held (blank g.from) [] ps (n
 pub shows_count : (g : Page) (ps : List Pose) → Shows g ps → g.count ≡ length ps
 shows_count g ps e = (held g ps e).counted
 
-pub shows_none : (g : Page) (ps : List Pose) (n : ℕ) → g.count ≤ n → Shows g ps → None ≡ slice_get ps n
-shows_none g ps n h e = sym (slice_get_past ps n (omega (arith, shows_count g ps e)))
-
-pub shows_pose : (g : Page) (ps : List Pose) (n : ℕ) (d : Pose) → Covers g n → n < g.count → Shows g ps → Some (get_or g.poses (n - g.from) d) ≡ slice_get ps n
-shows_pose g ps n d c h e =
+-- what a look-up at a number answers
+pub shows_pose : (g : Page) (ps : List Pose) (n : ℕ) (d : Pose) → Covers g n → Shows g ps
+    → (P : Pose → Type 0) → ((p : Pose) → P p → p ≡ get_or g.poses (n - g.from) d) → (o : Option Pose) → is_some o ≡ ltb n g.count → IfSome o P → o ≡ slice_get ps n
+shows_pose g ps n d c e P f None v t =
+    let h : g.count ≤ n = ltb-false n g.count (sym v) in
+    sym (slice_get_past ps n (omega (arith, shows_count g ps e)))
+shows_pose g ps n d c e P f (Some p) v t =
+    let h : n < g.count = ltb-true n g.count (sym v) in
     let l : n < length ps = omega (arith, shows_count g ps e) in
     let back : g.from + (n - g.from) ≡ n = omega (arith, c.low) in
-    ap Some ((held g ps e).kept (n - g.from) d (omega (arith, c.low, c.high)) (omega (arith, back, l)) ∙ ap (λ m. get_or ps m d) back)
+    ap Some (f p t ∙ (held g ps e).kept (n - g.from) d (omega (arith, c.low, c.high)) (omega (arith, back, l)) ∙ ap (λ m. get_or ps m d) back)
     ∙ sym (slice_get-get_or ps n d l)
 
 -- the page of a list starts where it should

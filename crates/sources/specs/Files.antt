@@ -1,21 +1,17 @@
 -- What the two sources of a job file mean. Assumes nothing.
-use Rattle.std.specs.Prelude.{◌≡◌, ℕ, List, [], map, Some, None, Option}
+use Rattle.std.specs.Prelude.{◌≡◌, ℕ, List, [], Some, None, Option}
 use Rattle.std.specs.Option.{unwrap_or, option_map, option_flatten}
 use Rattle.ladder.specs.declared.poses.Pose.{Pose}
 use Rattle.job.specs.declared.values.Arm.{Arm}
-use Rattle.job.specs.declared.values.Counts.{Counts}
 use Rattle.job.specs.declared.values.Position.{Position}
 use Rattle.job.specs.Resolved.{Resolved, position_in, poses_in, arm_of, position_of, poses_of}
+use Rattle.sources.specs.declared.targets.Target.{Target}
 use Rattle.sources.specs.Reach.{reaching}
 use Rattle.sources.specs.Offers.{Offers}
 
--- the pose of two counts in a file
-abbrev pub pose_of : Counts → Pose
-pose_of c = record { shoulder = c.shoulder; elbow = c.elbow }
-
 -- tabled: the pose list of waypoint w, which is empty where the file has none
 abbrev pub tabled : List ℕ → ℕ → List Pose
-tabled file w = map pose_of (poses_of file w)
+tabled file w = poses_of file w
 
 -- the poses of an arm that reach a position; none without an arm or a position
 abbrev pub reached : Option Arm → Option Position → List Pose
@@ -23,13 +19,18 @@ reached None at = []
 reached (Some a) None = []
 reached (Some a) (Some at) = reaching a at
 
+-- the poses that reach a target; none where there is no target
+abbrev pub reached_by : Option Target → List Pose
+reached_by None = []
+reached_by (Some t) = reaching t.arm t.at
+
 -- by the arm: the poses of the file's arm that reach waypoint w
 abbrev pub armed : List ℕ → ℕ → List Pose
 armed file w = reached (arm_of file) (position_of file w)
 
 -- tabled, from a job's values, of which a file that is refused has none
 abbrev pub tabled_in : Option Resolved → ℕ → List Pose
-tabled_in values w = map pose_of (unwrap_or (option_map (λ r. poses_in r w) values) [])
+tabled_in values w = unwrap_or (option_map (λ r. poses_in r w) values) []
 
 -- the arm of a job's values
 abbrev pub arm_in : Option Resolved → Option Arm

@@ -1,6 +1,6 @@
 -- The list of poses that an arm offers for a position, by its poses and their order. Assumes nothing.
 use Rattle.std.specs.Prelude.{◌≡◌, ℕ, ◌+◌, ◌*◌, ◌<◌, ◌≤◌, ◌⊎◌, List, length, ◌<ℤ◌, slice_index_or}
-use Rattle.std.specs.List.{ContainsAt as Has}
+use Rattle.std.specs.List.{Contains}
 use Rattle.ladder.specs.declared.poses.Pose.{Pose}
 use Rattle.job.specs.declared.values.Arm.{Arm}
 use Rattle.job.specs.declared.values.Position.{Position}
@@ -20,8 +20,8 @@ Before p q = (p.shoulder <ℤ q.shoulder) ⊎ ((p.shoulder ≡ q.shoulder) × (p
 
 -- every pose that reaches and no other, in strictly rising order
 pub record Offers (a : Arm) (at : Position) (ps : List Pose) : Type 0 where
-  pub every : (s e : ℕ) → Reaches a at s e → Has ps (pose s e)
-  pub only : (p : Pose) → Has ps p → (s : ℕ) × (e : ℕ) × (p ≡ pose s e) × Reaches a at s e
+  pub every : (s e : ℕ) → Reaches a at s e → Contains ps (pose s e)
+  pub only : (p : Pose) → Contains ps p → (s : ℕ) × (e : ℕ) × (p ≡ pose s e) × Reaches a at s e
   pub rising : (i j : ℕ) (d : Pose) → i < j → j < length ps → Before (slice_index_or ps i d) (slice_index_or ps j d)
 
 -- this leaves no choice of a list

@@ -1,7 +1,6 @@
 // The directions that a link can point in, 64 to a turn.
-ghost use Rattle.std.specs.Prelude.{◌≡◌, ◌<◌, map, pos, slice_index_or};
-ghost use Rattle.std.specs.List.{range_with_len};
-ghost use Rattle.sources.specs.Directions.{sine, cosine, Circle};
+ghost use Rattle.std.specs.Prelude.{◌≡◌, ◌+◌, ◌^◌, ◌<◌};
+ghost use Rattle.sources.specs.Directions.{sine, cosine};
 
 // 10,000 times the sine of each direction.
 const SINES: [i32; 64] = [
@@ -12,38 +11,17 @@ const SINES: [i32; 64] = [
     -4714, -3827, -2903, -1951, -980,
 ];
 
-// The table's entry for a direction of the first turn.
-fn entry(direction: usize) -> i32
-    requires { direction < 64 }
-    ensures { result ≡ slice_index_or (map sine (range_with_len 0 64)) direction (pos 0) }
-{
-    SINES[direction]
-}
-
-// The same for a direction of any turn.
-fn circular(direction: usize) -> i32
+// 10,000 times the sine of a direction, of any turn.
+pub fn sine_of(direction: usize) -> i32
     ensures { result ≡ sine direction }
 {
-    entry(direction % 64)
-}
-
-// 10,000 times the sine of a direction.
-pub fn sine_of(direction: u16) -> i32
-    ensures { result ≡ sine direction }
-{
-    circular(direction as usize)
+    SINES[direction % 64]
 }
 
 // 10,000 times its cosine: the sine a quarter turn on.
-pub fn cosine_of(direction: u16) -> i32
+pub fn cosine_of(direction: usize) -> i32
+    requires { direction + 16 < 2 ^ 64 }
     ensures { result ≡ cosine direction }
 {
-    circular(direction as usize + 16)
-}
-
-// The sines keep the rules of the circle.
-pub fn directions_stand() -> u8
-    ensures { Circle sine }
-{
-    0
+    sine_of(direction + 16)
 }

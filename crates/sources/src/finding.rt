@@ -1,41 +1,16 @@
 // How an arm's source finds its poses.
-ghost use Rattle.std.specs.Prelude.{◌≡◌, ℕ};
+ghost use Rattle.std.specs.Prelude.{◌≡◌};
 ghost use Rattle.std.specs.Option.{option_map};
 ghost use Rattle.job.specs.Jobs.{view};
-ghost use Rattle.sources.specs.Files.{armed, arm_in, place_in, armed_in, Offered, OffersFor};
+ghost use Rattle.sources.specs.Files.{armed, armed_in, reached_by, OffersFor};
 ghost use Rattle.sources.specs.Pages.{Shows, Covers};
 
 use crate::arms::{Armed, Memory};
 use crate::asking::Source;
 use crate::files::opened;
-use crate::pages::{Page, scan};
-use job::Job;
+use crate::pages::Page;
+use crate::targets::Target;
 use ladder::poses::Pose;
-
-// The page of a waypoint, with the numbers from `from` on.
-fn find(job: &Option<Job>, waypoint: u16, from: usize) -> Page
-    ensures shows { Shows result (armed_in (option_map view job.now) waypoint) }
-    ensures from { result.from ≡ from }
-{
-    let Some(job) = job else {
-        return Page::new(from);
-    };
-    let Some(arm) = job.arm() else {
-        return Page::new(from);
-    };
-    let Some(at) = job.position(waypoint) else {
-        return Page::new(from);
-    };
-    scan(arm, at, from)
-}
-
-// The source of a job, with nothing remembered.
-fn unasked<'a>(job: Option<Job<'a>>) -> Armed<'a>
-    ensures means { option_map view result.job ≡ option_map view job.entry }
-    ensures offers { (w : ℕ) → Offered (arm_in (option_map view job.entry)) (place_in (option_map view job.entry) w) (armed_in (option_map view result.job) w) }
-{
-    Armed { job, memory: None }
-}
 
 impl<'a> Armed<'a> {
     // The source of a job file, which may be any bytes. The file is read here, and not again.
@@ -43,7 +18,30 @@ impl<'a> Armed<'a> {
         ensures means { armed_in (option_map view result.job) ≡ armed file.now }
         ensures offers { OffersFor file.now (armed_in (option_map view result.job)) }
     {
-        unasked(opened(file))
+        Armed {
+            job: opened(file),
+            memory: None,
+        }
+    }
+
+    // What the job's arm is to reach for a waypoint; None without an arm or a position.
+    fn target(&self, waypoint: u16) -> Option<Target>
+        ensures { reached_by result ≡ armed_in (option_map view self.now.job) waypoint }
+    {
+        let job = self.job.as_ref()?;
+        Some(Target {
+            arm: job.arm()?,
+            at: job.position(waypoint)?,
+        })
+    }
+
+    // The page of a waypoint, with the numbers from `from` on.
+    fn find(&self, waypoint: u16, from: usize) -> Page
+        ensures shows { Shows result (armed_in (option_map view self.now.job) waypoint) }
+        ensures from { result.from ≡ from }
+    {
+        self.target(waypoint)
+            .map_or_else(|| Page::new(from), |target| target.page(from))
     }
 
     // The page of a waypoint that covers a number: the one that is remembered if it does.
@@ -52,17 +50,15 @@ impl<'a> Armed<'a> {
         ensures covers { Covers result number }
         ensures same { self.new.job ≡ self.old.job }
     {
-        if let Some(memory) = self.memory {
-            if memory.waypoint == waypoint && memory.page.covers(number) {
-                return memory.page;
-            }
+        if let Some(memory) = self.memory
+            && memory.waypoint == waypoint
+            && memory.page.covers(number)
+        {
+            return memory.page;
         }
-        let found = find(&self.job, waypoint, number - number % 16);
-        self.memory = Some(Memory {
-            waypoint,
-            page: found,
-        });
-        found
+        let page = self.find(waypoint, number - number % 16);
+        self.memory = Some(Memory { waypoint, page });
+        page
     }
 }
 

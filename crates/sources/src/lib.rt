@@ -9,11 +9,11 @@ mod finding;
 mod pages;
 mod reach;
 mod tabled;
-mod worked;
+mod targets;
+mod theorems;
 
 pub use arms::Armed;
 pub use asking::Source;
-pub use directions::directions_stand;
-pub use reach::{offers_are_unique, reaches};
+pub use reach::reaches;
 pub use tabled::Tabled;
-pub use worked::arm_worked;
+pub use theorems::{arm_worked, directions_stand, offers_are_unique};

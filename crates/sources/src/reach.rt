@@ -1,8 +1,6 @@
 // Which poses bring the end of an arm to a position.
 ghost use Rattle.std.specs.Prelude.{◌≡◌, ◌^◌, ◌<◌, pos, ◌*ℤ◌, unsigned_abs};
-ghost use Rattle.sources.specs.Directions.{sine, cosine};
-ghost use Rattle.sources.specs.Offers.{OneList};
-ghost use Rattle.sources.specs.Reach.{off, near, reaching_pose};
+ghost use Rattle.sources.specs.Reach.{near, reaching_pose};
 
 use crate::directions::{cosine_of, sine_of};
 use job::{Arm, Position};
@@ -12,50 +10,23 @@ fn scaled(link: u16, part: i32) -> i64
     ensures value { result ≡ pos link *ℤ part }
     ensures bound { unsigned_abs result < 2 ^ 48 }
 {
-    link as i64 * part as i64
+    i64::from(link) * i64::from(part)
 }
 
-// How far one coordinate of the arm's end is off x, from those of its two links' directions.
-fn off_by(arm: Arm, first: i32, second: i32, x: i16) -> u64
-    ensures { result ≡ off arm first second x }
-{
-    let end = scaled(arm.first, first) + scaled(arm.second, second);
-    end.abs_diff(10_000 * x as i64)
-}
-
-// Whether it lies in the window around x.
+// Whether one coordinate of the arm's end lies in the window around x, by those of its two links' directions.
 fn is_near(arm: Arm, first: i32, second: i32, x: i16) -> bool
     ensures { result ≡ near arm first second x }
 {
-    off_by(arm, first, second, x) <= 10_000 * arm.window as u64
-}
-
-// Whether links in two directions end in the window around x, across the board.
-fn near_across(arm: Arm, first: u16, second: u16, x: i16) -> bool
-    ensures { result ≡ near arm (cosine first) (cosine second) x }
-{
-    is_near(arm, cosine_of(first), cosine_of(second), x)
-}
-
-// The same around y, along the board.
-fn near_along(arm: Arm, first: u16, second: u16, y: i16) -> bool
-    ensures { result ≡ near arm (sine first) (sine second) y }
-{
-    is_near(arm, sine_of(first), sine_of(second), y)
+    let end = scaled(arm.first, first) + scaled(arm.second, second);
+    end.abs_diff(10_000 * i64::from(x)) <= 10_000 * u64::from(arm.window)
 }
 
 // Whether shoulder s and elbow e bring the arm's end into the window around a position.
 pub fn reaches(arm: Arm, at: Position, s: u8, e: u8) -> bool
     ensures { result ≡ reaching_pose arm at s e }
 {
-    let first = s as u16;
-    let second = first + e as u16;
-    near_across(arm, first, second, at.x) && near_along(arm, first, second, at.y)
-}
-
-// No two lists are what an arm offers for a position.
-pub fn offers_are_unique() -> u8
-    ensures { OneList }
-{
-    0
+    let first = s as usize;
+    let second = first + e as usize;
+    is_near(arm, cosine_of(first), cosine_of(second), at.x)
+        && is_near(arm, sine_of(first), sine_of(second), at.y)
 }

@@ -1,8 +1,7 @@
-use Rattle.sources.proofs.Shown.{shows_none, shows_pose}
+use Rattle.std.proofs.Common.{rules}
+use Rattle.sources.specs.Reach.{pose}
+use Rattle.sources.proofs.Shown.{shows_pose}
 use Rattle.sources.proofs.pages.Page.get.Goals as goal
 
-pub returns-then-number-self : goal.returns-then-number-self
-returns-then-number-self c ps e = shows_none c.args.self.now ps c.args.number c.if-number-self.true e
-
 pub returns : goal.returns
-returns c ps e = shows_pose c.args.self.now ps c.args.number _ c.requires c.if-number-self.false e
+returns c ps e = shows_pose c.args.self.now ps c.args.number (pose 0 0) c.requires e _ (λ p h. search rules) c.then.result c.then.ensures.variant c.then.ensures.some

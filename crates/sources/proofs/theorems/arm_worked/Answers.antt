@@ -1,6 +1,6 @@
 use Rattle.std.proofs.Common.{refl}
 use Rattle.sources.specs.Reach.{row, rows}
-use Rattle.sources.proofs.worked.arm_worked.Goals as goal
+use Rattle.sources.proofs.theorems.arm_worked.Goals as goal
 
 pub returns : goal.returns
 unfolding row rows

@@ -1,5 +1,5 @@
 use Rattle.sources.proofs.Offered.{offers_one}
-use Rattle.sources.proofs.reach.offers_are_unique.Goals as goal
+use Rattle.sources.proofs.theorems.offers_are_unique.Goals as goal
 
 pub returns : goal.returns
 returns c = offers_one
