@@ -3,7 +3,7 @@ use Rattle.std.proofs.Common.{◌≡◌, ℕ, zero, suc, ◌+◌, ◌<◌, ◌�
 use Rattle.std.proofs.ByRecursion.{All-get_or}
 use Rattle.ladder.specs.declared.poses.Step.{Step}
 use Rattle.ladder.specs.Rules.{Rules, Lawful}
-use Rattle.ladder.specs.Tracks.{Rung, Admissible, Bounded, steps, cost}
+use Rattle.ladder.specs.Tracks.{Rung, Admissible, steps, cost}
 use Rattle.ladder.specs.Listed.{tracks_of}
 use Rattle.ladder.proofs.Endings.{list}
 use Rattle.ladder.proofs.Forward.{length_steps}
@@ -15,28 +15,13 @@ use Rattle.enumeration.proofs.Heads.{fresh_heads}
 use Rattle.enumeration.proofs.Frames.{length_ladder}
 use Rattle.book.specs.Book.{given, refused, with_rung, written, nexting}
 use Rattle.book.proofs.Replies.{next_ended, next_found, nexting_refused, nexting_given}
-use Rattle.resolver.specs.declared.held.Resolver.{Resolver}
 use Rattle.resolver.specs.declared.tables.Core.{Core}
 use Rattle.resolver.specs.declared.answers.Taken.{Taken}
-use Rattle.resolver.specs.Bounds.{Bounds}
 use Rattle.resolver.specs.Tables.{tables_of}
 use Rattle.resolver.specs.Standing.{poses_in, ladder_in, book}
 use Rattle.resolver.specs.Adding.{GrownByARung}
 use Rattle.resolver.specs.Sound.{Sound, HeadsSound, taken_at, plainly, due, SetupKept, Gives, Ends, ladder_of, list_of}
-
--- a resolver keeps its bounds
-pub bounds_of : {C : Type 0} (r : Resolver C) → Bounds r.core
-bounds_of r = record {
-  shoulder = r.shoulder;
-  elbow = r.elbow;
-  limited = r.limited;
-  rationed = r.rationed;
-  held = r.held;
-  drawn = r.drawn;
-  stations = r.stations;
-  ranked = r.ranked;
-  candidates = r.candidates;
-}
+use Rattle.resolver.proofs.Bounded.{bounded}
 
 -- the ladder of the tables is that of the book
 pub ladder_is : {C P : Type 0} (c : Rules C P) (k : Core C) (n : ℕ) → ladder_in k.stations.now k.extents n ≡ ladder (tables_of c k) n
@@ -44,10 +29,7 @@ unfolding ladder_in ladder
 ladder_is c k zero = refl
 ladder_is c k (suc n) = ap (λ rs. poses_in k.stations.now k.extents n ∷ rs) (ladder_is c k n)
 
-module _ {C P : Type 0} (c : Rules C P) (laws : Lawful c) (k m : Core C) (b : Bounds k) (kept : SetupKept k m) (out after : List Step) where
-  bounded : Bounded k.limits
-  bounded = (b.shoulder, b.elbow)
-
+module _ {C P : Type 0} (c : Rules C P) (laws : Lawful c) (k m : Core C) (kept : SetupKept k m) (out after : List Step) where
   rungs_are : ladder_of c k ≡ (book k).rungs
   rungs_are = sym (ladder_is c k k.rungs)
 
@@ -72,8 +54,8 @@ module _ {C P : Type 0} (c : Rules C P) (laws : Lawful c) (k m : Core C) (b : Bo
   -- the track that is given has as many steps as there are rungs
   steps_long : k.taken < length (list_of c k) → length (steps (ladder_of c k) (get_or (list_of c k) k.taken [])) ≡ k.rungs
   steps_long h =
-      let few : length (ladder_of c k) ≤ 128 = omega (arith, length_ladder (tables_of c k) k.rungs, b.held, b.limited) in
-      let a = All-get_or (Admissible k.limits (ladder_of c k)) (list_of c k) k.taken [] h (list c laws k.limits bounded (ladder_of c k) few).only in
+      let few : length (ladder_of c k) ≤ 128 = omega (arith, length_ladder (tables_of c k) k.rungs, k.held, k.limited) in
+      let a = All-get_or (Admissible k.limits (ladder_of c k)) (list_of c k) k.taken [] h (list c laws k.limits (bounded k) (ladder_of c k) few).only in
       length_steps (ladder_of c k) (get_or (list_of c k) k.taken []) a.numbered ∙ length_ladder (tables_of c k) k.rungs
 
   pub next_one : (x : Taken C) → k.closed ≡ true → k.rungs ≤ length out → k.taken < k.ration → ladder_of c m ≡ ladder_of c k → Gives c k out after m.taken x → record { answer = given x.number x.cost; output = after; book = book m } ≡ nexting c (book k) out

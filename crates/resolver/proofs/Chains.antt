@@ -6,10 +6,10 @@ use Rattle.book.specs.Book.{Book, Outcome, accepted, sizing, new_book, opened}
 use Rattle.book.specs.Runs.{Event, AsTheBook, New}
 use Rattle.book.proofs.Runs.{runs_keep}
 use Rattle.resolver.specs.declared.tables.Core.{Core}
-use Rattle.resolver.specs.Bounds.{Bounds}
 use Rattle.resolver.specs.Calls.{Chain, KeepsPromise}
 use Rattle.resolver.specs.Sound.{Sound}
 use Rattle.resolver.specs.Standing.{book}
+use Rattle.resolver.proofs.Bounded.{bounded}
 
 -- a chain of calls answers as the book does
 pub as_the_book : {C P : Type 0} (c : Rules C P) (es : List (Event C)) (k : Core C) → Sound c k → Chain c k es → AsTheBook c (book k) es
@@ -26,12 +26,12 @@ none_taken : (t : Bool) (l : Limits) (limit ration : ℕ) → (cond t (new_book 
 none_taken true l limit ration = refl
 none_taken false l limit ration = refl
 
-pub keeps_promise : {C P : Type 0} (c : Rules C P) → Lawful c → (k : Core C) → Bounds k → Sound c k → (l : Limits) (limit ration poses ranked candidates : ℕ) → book k ≡ opened l limit ration poses ranked candidates → KeepsPromise c (opened l limit ration poses ranked candidates) k
-keeps_promise {C} c laws k b s l limit ration poses ranked candidates is es t =
+pub keeps_promise : {C P : Type 0} (c : Rules C P) → Lawful c → (k : Core C) → Sound c k → (l : Limits) (limit ration poses ranked candidates : ℕ) → book k ≡ opened l limit ration poses ranked candidates → KeepsPromise c (opened l limit ration poses ranked candidates) k
+keeps_promise {C} c laws k s l limit ration poses ranked candidates is es t =
     let fit = accepted (sizing {V = ℕ} limit ration poses ranked candidates) in
     let new : New (book k) = record {
-      bounded = (b.shoulder, b.elbow);
-      limited = b.limited;
+      bounded = bounded k;
+      limited = k.limited;
       no_rung = ap (λ (d : Book). d.rungs) is ∙ no_rung fit l limit ration;
       untaken = ap (λ (d : Book). d.taken) is ∙ none_taken fit l limit ration;
     } in

@@ -1,5 +1,6 @@
 pub mod Copies
 pub mod Rungs
+mod Bounded
 mod Slices
 mod Blocks
 mod Appending

@@ -1,5 +1,5 @@
 pub mod Answers
-pub mod Bounds
+pub mod Kept
 pub mod Tables
 pub mod Standing
 pub mod Effects

@@ -4,7 +4,6 @@ ghost use Rattle.book.specs.Book.{adding, closing, nexting};
 ghost use Rattle.resolver.specs.Sound.{Sound, SetupKept};
 ghost use Rattle.resolver.specs.Answers.{count_answer, track_answer};
 ghost use Rattle.resolver.specs.Adding.{AddsRung, GrownByARung};
-ghost use Rattle.resolver.specs.Bounds.{Bounds};
 ghost use Rattle.resolver.specs.Calls.{Makes, Unready, nexted, sought};
 ghost use Rattle.resolver.specs.Standing.{book};
 
@@ -32,8 +31,9 @@ fn copy_poses<S: Source>(source: &mut S, waypoint: u16, into: &mut [Pose])
 impl<'t, C: Cost> Core<'t, C> {
     // Appends the rung of the source's list at a waypoint, which `poses` has just the places for.
     fn append_from<S: Source>(&mut self, source: &mut S, waypoint: u16, poses: &mut [Pose]) -> usize
-        requires { (Bounds self.old) × ((self.old.rungs < self.old.rung_limit) × ((length poses.old ≤ 16) × (length poses.old ≡ length (S.Source.meaning source.old waypoint)))) }
-        ensures bounds { Bounds self.new }
+        requires rung { self.old.rungs < self.old.rung_limit }
+        requires few { length poses.old ≤ 16 }
+        requires long { length poses.old ≡ length (S.Source.meaning source.old waypoint) }
         ensures count { (result ≡ self.old.rungs + 1) × (self.new.rungs ≡ result) }
         ensures grown { GrownByARung self.old self.new }
         ensures effect { AddsRung C.Cost.rules self.old self.new (S.Source.meaning source.old waypoint) }

@@ -3,7 +3,7 @@ ghost use Rattle.std.specs.Prelude.{◌≡◌, ℕ, length};
 ghost use Rattle.book.specs.Book.{sizing, opened, new_book};
 ghost use Rattle.ladder.specs.declared.poses.Limits.{Limits};
 ghost use Rattle.resolver.specs.Answers.{size_answer};
-ghost use Rattle.resolver.specs.Bounds.{Bounds, Roomy};
+ghost use Rattle.resolver.specs.Kept.{Roomy};
 ghost use Rattle.resolver.specs.Calls.{KeepsPromise};
 ghost use Rattle.resolver.specs.Sound.{Sound};
 ghost use Rattle.resolver.specs.Standing.{book};
@@ -64,7 +64,6 @@ impl<'t, C: Cost> Core<'t, C> {
         ranked: &'t mut [Ranked<C>],
         candidates: &'t mut [Candidate<C>],
     ) -> Core<'t, C>
-        ensures bounds { Bounds result }
         ensures sound { Sound C.Cost.rules result }
         ensures opens { book result ≡ opened limits rung_limit ration (length stations.old) (length ranked.old) (length candidates.old) }
     {

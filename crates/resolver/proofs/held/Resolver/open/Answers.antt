@@ -9,5 +9,5 @@ returns g c =
     record {
       sound = o.sound;
       opens = o.opens;
-      promise = keeps_promise g.C.Cost.rules g.met.C.Cost.lawful c.open.result o.bounds o.sound a.limits a.rung_limit a.ration (length a.stations.now) (length a.ranked.now) (length a.candidates.now) o.opens;
+      promise = keeps_promise g.C.Cost.rules g.met.C.Cost.lawful c.open.result o.sound a.limits a.rung_limit a.ration (length a.stations.now) (length a.ranked.now) (length a.candidates.now) o.opens;
     }

@@ -1,7 +1,6 @@
 use Rattle.std.proofs.Common.{refl, ◌∙◌, arith}
 use Rattle.std.proofs.lemmas.Result.{err_from_is_err_and}
 use Rattle.resolver.specs.Answers.{number}
-use Rattle.resolver.proofs.Books.{bounds_of}
 use Rattle.resolver.proofs.Unready.{seek_unready}
 use Rattle.resolver.proofs.Seeking.{judged_so, sought_refused, sought_passed, sought_turned}
 use Rattle.resolver.proofs.held.Resolver.seek.Goals as goal
@@ -37,7 +36,7 @@ returns-in_err-taken g c =
       outcome = λ s.
           let t = i.4 s in
           let o = e.outcome t.0 in
-          (o.0, rw (p.1, p.2) (sought_refused g.C.Cost.rules g.met.C.Cost.lawful c.loop-taken.self.core c.take.new.self.core (bounds_of c.loop-taken.self) f c.loop-taken.out c.take.new.out (number c.in_err-taken.field-0.0) o.1 ∙ t.1));
+          (o.0, rw (p.1, p.2) (sought_refused g.C.Cost.rules g.met.C.Cost.lawful c.loop-taken.self.core c.take.new.self.core f c.loop-taken.out c.take.new.out (number c.in_err-taken.field-0.0) o.1 ∙ t.1));
       same = i.3;
     }
 
@@ -49,14 +48,14 @@ returns-then-judge g c =
       outcome = λ s.
           let t = i.4 s in
           let o = e.outcome t.0 in
-          (o.0, sought_passed g.C.Cost.rules g.met.C.Cost.lawful c.loop-taken.self.core c.take.new.self.core (bounds_of c.loop-taken.self) (g.F.Filter.passes c.args.filter.now) c.loop-taken.out c.take.new.out c.in_ok-taken.taken.number c.in_ok-taken.taken.cost o.1 (judged_so (g.F.Filter.passes c.loop-taken.filter) (g.F.Filter.passes c.args.filter.now) c.judge.result c.take.new.self.core.rungs c.loop-taken.self.core.rungs c.take.new.out c.judge.ensures.value i.3 e.kept.rungs ∙ c.if-judge.true) ∙ t.1);
+          (o.0, sought_passed g.C.Cost.rules g.met.C.Cost.lawful c.loop-taken.self.core c.take.new.self.core (g.F.Filter.passes c.args.filter.now) c.loop-taken.out c.take.new.out c.in_ok-taken.taken.number c.in_ok-taken.taken.cost o.1 (judged_so (g.F.Filter.passes c.loop-taken.filter) (g.F.Filter.passes c.args.filter.now) c.judge.result c.take.new.self.core.rungs c.loop-taken.self.core.rungs c.take.new.out c.judge.ensures.value i.3 e.kept.rungs ∙ c.if-judge.true) ∙ t.1);
       same = c.judge.ensures.same ∙ i.3;
     }
 
 pub loop-taken-smaller : goal.loop-taken-smaller
 loop-taken-smaller g c =
     let e = c.in_ok-taken.ensures in
-    let d = c.take.new.self.drawn in
+    let d = c.take.new.self.core.drawn in
     let k = e.kept.ration in
     let n = e.counts in
     omega arith
@@ -72,5 +71,5 @@ loop-taken-preserved g c =
       λ s.
           let t = i.4 s in
           let o = e.outcome t.0 in
-          (o.0, sought_turned g.C.Cost.rules g.met.C.Cost.lawful c.loop-taken.self.core c.take.new.self.core (bounds_of c.loop-taken.self) (g.F.Filter.passes c.args.filter.now) c.loop-taken.out c.take.new.out c.in_ok-taken.taken.number c.in_ok-taken.taken.cost o.1 (judged_so (g.F.Filter.passes c.loop-taken.filter) (g.F.Filter.passes c.args.filter.now) c.judge.result c.take.new.self.core.rungs c.loop-taken.self.core.rungs c.take.new.out c.judge.ensures.value i.3 e.kept.rungs ∙ c.if-judge.false) ∙ t.1),
+          (o.0, sought_turned g.C.Cost.rules g.met.C.Cost.lawful c.loop-taken.self.core c.take.new.self.core (g.F.Filter.passes c.args.filter.now) c.loop-taken.out c.take.new.out c.in_ok-taken.taken.number c.in_ok-taken.taken.cost o.1 (judged_so (g.F.Filter.passes c.loop-taken.filter) (g.F.Filter.passes c.args.filter.now) c.judge.result c.take.new.self.core.rungs c.loop-taken.self.core.rungs c.take.new.out c.judge.ensures.value i.3 e.kept.rungs ∙ c.if-judge.false) ∙ t.1),
     )

@@ -3,7 +3,7 @@ use Rattle.ladder.specs.Listed.{tracks_of}
 use Rattle.book.proofs.Replies.{next_spent, nexting_refused}
 use Rattle.resolver.specs.Standing.{book}
 use Rattle.resolver.proofs.Rungs.{length_ladder}
-use Rattle.resolver.proofs.Books.{next_none, next_one, bounds_of}
+use Rattle.resolver.proofs.Books.{next_none, next_one}
 use Rattle.resolver.proofs.held.Resolver.take.Goals as goal
 
 pub returns-then-self : goal.returns-then-self
@@ -27,7 +27,7 @@ returns-in-Some g c =
     record {
       outcome = λ s.
           let f = t.effect s c.requires.0 in
-          (f.0, next_one g.C.Cost.rules g.met.C.Cost.lawful k m (bounds_of c.args.self.now) t.kept c.args.out.now c.take_next.new.out c.in-Some.taken c.requires.0 c.requires.1 (omega (arith, c.if-self.false)) f.1 f.2);
+          (f.0, next_one g.C.Cost.rules g.met.C.Cost.lawful k m t.kept c.args.out.now c.take_next.new.out c.in-Some.taken c.requires.0 c.requires.1 (omega (arith, c.if-self.false)) f.1 f.2);
       kept = t.kept;
       counts = t.counts;
     }
@@ -40,7 +40,7 @@ returns-in-None g c =
     record {
       outcome = λ s.
           let f = t.effect s c.requires.0 in
-          (f.0, next_none g.C.Cost.rules g.met.C.Cost.lawful k m (bounds_of c.args.self.now) t.kept c.args.out.now c.take_next.new.out c.requires.0 c.requires.1 (omega (arith, c.if-self.false)) f.1 f.2);
+          (f.0, next_none g.C.Cost.rules g.met.C.Cost.lawful k m t.kept c.args.out.now c.take_next.new.out c.requires.0 c.requires.1 (omega (arith, c.if-self.false)) f.1 f.2);
       kept = t.kept;
       counts = tt;
     }

@@ -12,8 +12,8 @@ loop-at-init g c =
     let path = c.args.path.now in (
       omega arith,
       λ v is numbered backed.
-          let same = sym (get_or-set_same path r c.args.v (record { 0 = 0 }) c.requires.1.1) ∙ is in
-          subst (λ u. PathDown t r v (set path r u) r) (sym same) (path_starts (width k) t r v path c.requires.1.1 numbered),
+          let same = sym (get_or-set_same path r c.args.v (record { 0 = 0 }) c.requires.path) ∙ is in
+          subst (λ u. PathDown t r v (set path r u) r) (sym same) (path_starts (width k) t r v path c.requires.path numbered),
     )
 
 pub loop-at-preserved : goal.loop-at-preserved
@@ -31,7 +31,7 @@ loop-at-preserved g c =
           let pose = down.numbered at (omega arith) c.loop-at.invariant.0 in
           let few : (path_at path at).0 < 16 = omega (arith, pose, backed.few at c.loop-at.invariant.0) in
           let said = sym c.in-Some.is ∙ c.needed.ensures few (backed_readable w t r at (path_at path at).0 backed c.loop-at.invariant.0 pose) in
-          path_goes_down w t r v path (at - 1) c.in-Some.u (omega (arith, c.loop-at.auto.path, length-set c.args.path.now r c.args.v, c.requires.1.1)) backed (omega (arith, c.loop-at.invariant.0, above)) (subst (λ z. Some c.in-Some.u ≡ needed_at t z (path_at path z).0) above said) (subst (λ z. PathDown t r v path z) above down),
+          path_goes_down w t r v path (at - 1) c.in-Some.u (omega (arith, c.loop-at.auto.path, length-set c.args.path.now r c.args.v, c.requires.path)) backed (omega (arith, c.loop-at.invariant.0, above)) (subst (λ z. Some c.in-Some.u ≡ needed_at t z (path_at path z).0) above said) (subst (λ z. PathDown t r v path z) above down),
     )
 
 pub returns-in_default : goal.returns-in_default
@@ -44,7 +44,7 @@ returns-in_default g c =
     record {
       low = c.loop-at.invariant.0;
       path = λ numbered backed.
-          let down = c.loop-at.invariant.1 c.args.v (get_or-set_same c.args.path.now r c.args.v (record { 0 = 0 }) c.requires.1.1) numbered backed in
+          let down = c.loop-at.invariant.1 c.args.v (get_or-set_same c.args.path.now r c.args.v (record { 0 = 0 }) c.requires.path) numbered backed in
           let pose = down.numbered at (omega arith) c.loop-at.invariant.0 in
           let few : (path_at path at).0 < 16 = omega (arith, pose, backed.few at c.loop-at.invariant.0) in
           (down, sym (c.needed.ensures few (backed_readable (width k) t r at (path_at path at).0 backed c.loop-at.invariant.0 pose)) ∙ c.in_default.is);
@@ -60,7 +60,7 @@ returns g c =
     record {
       low = c.loop-at.invariant.0;
       path = λ numbered backed.
-          let down = c.loop-at.invariant.1 c.args.v (get_or-set_same c.args.path.now r c.args.v (record { 0 = 0 }) c.requires.1.1) numbered backed in
+          let down = c.loop-at.invariant.1 c.args.v (get_or-set_same c.args.path.now r c.args.v (record { 0 = 0 }) c.requires.path) numbered backed in
           let first : at ≡ 0 = omega (arith, c.loop-at-test.false) in
           (down, ap (λ z. needed_at t z (path_at path at).0) first);
     }

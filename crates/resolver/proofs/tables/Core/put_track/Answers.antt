@@ -12,7 +12,6 @@ returns g c =
     let d = no_track g.C.Cost.rules in
     let w = width k in
     record {
-      bounds = search rules;
       same = search rules;
       effect = λ h.
           let is = c.ranked_place-i.ensures.is h in
