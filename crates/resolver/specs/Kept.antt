@@ -1,5 +1,5 @@
--- What finding ranks leaves as it was, and what room opening needs. Assumes nothing.
-use Rattle.std.specs.Prelude.{◌≡◌, ℕ, ◌+◌, ◌*◌, ◌≤◌, None}
+-- What finding ranks leaves as it was. Assumes nothing.
+use Rattle.std.specs.Prelude.{◌≡◌, None}
 use Rattle.resolver.specs.declared.tables.Core.{Core}
 
 -- what finding ranks leaves as it was
@@ -16,11 +16,3 @@ pub record Same {C : Type 0} (k m : Core C) : Type 0 where
 -- a resolver without a recent pose
 abbrev pub settled : {C : Type 0} → Core C → Core C
 settled k = record k { recent = None }
-
--- the tables have room for the rung limit and the ration
-pub record Roomy (limit ration poses tracks waiting : ℕ) : Type 0 where
-  pub limited : limit ≤ 128
-  pub rationed : ration ≤ 4096
-  pub stations : 16 * limit ≤ poses
-  pub ranked : (16 + ration) * limit ≤ tracks
-  pub candidates : 256 * limit ≤ waiting
