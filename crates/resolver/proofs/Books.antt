@@ -19,7 +19,7 @@ use Rattle.resolver.specs.declared.tables.Core.{Core}
 use Rattle.resolver.specs.declared.answers.Taken.{Taken}
 use Rattle.resolver.specs.Tables.{tables_of}
 use Rattle.resolver.specs.Standing.{poses_in, ladder_in, book}
-use Rattle.resolver.specs.Adding.{GrownByARung}
+use Rattle.resolver.specs.Adding.{AddsRung, GrownByARung}
 use Rattle.resolver.specs.Sound.{Sound, HeadsSound, taken_at, plainly, due, SetupKept, Gives, Ends, ladder_of, list_of}
 use Rattle.resolver.proofs.Bounded.{bounded}
 
@@ -113,3 +113,9 @@ open_sound c k e t o d cs = record {
   untaken = λ _. record { rungs = λ r h. absurd (let no_way : ⊥ = omega (arith, h, e) in no_way); taken = t; counts = cs; recent = o };
   heads = subst (HeadsSound c k) (sym e) t;
 }
+
+-- adding the list of a source, which answered the rung ps, keeps the tables sound and adds the rung to the book
+pub added : {C P : Type 0} (c : Rules C P) (k m : Core C) (list : Rung) → GrownByARung k m → Sound c k → k.closed ≡ false → 1 ≤ length list → {ps : Rung} → ps ≡ list → AddsRung c k m ps → Sound c m × (book m ≡ with_rung (book k) list)
+added c k m list grown s o some {ps} same effect =
+    let f = effect (omega (arith, some, ap length same)) (filled_of c k m list grown s o) in
+    (add_sound c k m list grown s o f.0, add_book c k m list grown (f.1 ∙ ap (λ qs. qs ∷ ladder (tables_of c k) k.rungs) same))

@@ -1,3 +1,4 @@
+pub mod Codes
 pub mod Copies
 pub mod Rungs
 mod Bounded
