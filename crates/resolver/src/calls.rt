@@ -63,10 +63,7 @@ impl<'t, C: Cost> Resolver<'t, C> {
         if n > 16 {
             return Err(Refusal::TooManyPoses);
         }
-        let mut poses = [Pose {
-            shoulder: 0,
-            elbow: 0,
-        }; 16];
+        let mut poses = [Pose::default(); 16];
         Ok(self.core.append_from(source, waypoint, &mut poses[0..n]))
     }
 
@@ -105,10 +102,7 @@ impl<'t, C: Cost> Resolver<'t, C> {
         if self.core.taken >= self.core.ration {
             return Err(Refusal::RationSpent);
         }
-        match self.core.take_next(out) {
-            Some(taken) => Ok(taken),
-            None => Err(Refusal::NoTrackLeft),
-        }
+        self.core.take_next(out).ok_or(Refusal::NoTrackLeft)
     }
 
     // Takes the first untaken track of the list: answers its number and cost, and writes its steps to the first places of `out`.
