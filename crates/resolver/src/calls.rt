@@ -21,9 +21,9 @@ fn copy_poses<S: Source>(source: &mut S, waypoint: u16, into: &mut [Pose])
     ensures into { into.new ≡ S.Source.meaning source.old waypoint }
     ensures same { S.Source.meaning source.new ≡ S.Source.meaning source.old }
 {
-    for j in 0..into.len() {
+    for (j, place) in into.iter_mut().enumerate() {
         if let Some(p) = source.pose(waypoint, j) {
-            into[j] = p;
+            *place = p;
         }
     }
 }

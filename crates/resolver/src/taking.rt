@@ -52,7 +52,7 @@ impl<'t, C: Cost> Core<'t, C> {
         requires { r < self.now.rung_limit }
         ensures { IsBest C.Cost.rules self.now r result }
     {
-        let mut best: Option<PoseNumber> = None;
+        let mut best = None;
         for v in 0..self.extents[r].poses {
             best = self.better(r, best, PoseNumber(v));
         }
