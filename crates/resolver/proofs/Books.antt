@@ -1,5 +1,6 @@
 -- What the calls of a sound resolver come to in its book. Assumes nothing.
-use Rattle.std.proofs.Common.{◌≡◌, ℕ, zero, suc, ◌+◌, ◌<◌, ◌≤◌, true, false, List, [], ◌∷◌, ◌++◌, length, get_or, drop, replicate, None, sym, refl, ap, ◌∙◌, subst, arith}
+use Rattle.std.proofs.Common.{◌≡◌, ℕ, zero, suc, ◌+◌, ◌<◌, ◌≤◌, true, false, List, [], ◌∷◌, ◌++◌, length, get_or, drop, replicate, Some, None, Option, MatchOption, sym, refl, ap, ◌∙◌, subst, arith}
+use Rattle.std.specs.Option.{ok_or}
 use Rattle.std.proofs.ByRecursion.{All-get_or}
 use Rattle.ladder.specs.declared.poses.Step.{Step}
 use Rattle.ladder.specs.Rules.{Rules, Lawful}
@@ -17,6 +18,8 @@ use Rattle.book.specs.Book.{given, refused, with_rung, written, nexting}
 use Rattle.book.proofs.Replies.{next_ended, next_found, nexting_refused, nexting_given}
 use Rattle.resolver.specs.declared.tables.Core.{Core}
 use Rattle.resolver.specs.declared.answers.Taken.{Taken}
+use Rattle.resolver.specs.declared.answers.Refusal.TheVariants.{NoTrackLeft}
+use Rattle.resolver.specs.Answers.{track_answer}
 use Rattle.resolver.specs.Tables.{tables_of}
 use Rattle.resolver.specs.Standing.{poses_in, ladder_in, book}
 use Rattle.resolver.specs.Adding.{AddsRung, GrownByARung}
@@ -46,7 +49,7 @@ module _ {C P : Type 0} (c : Rules C P) (laws : Lawful c) (k m : Core C) (kept :
   length_rungs = ap length (sym rungs_are) ∙ length_ladder (tables_of c k) k.rungs
 
   -- the list is at its end
-  pub next_none : k.closed ≡ true → k.rungs ≤ length out → k.taken < k.ration → ladder_of c m ≡ ladder_of c k → Ends c k out after m.taken → record { answer = refused 10; output = after; book = book m } ≡ nexting c (book k) out
+  next_none : k.closed ≡ true → k.rungs ≤ length out → k.taken < k.ration → ladder_of c m ≡ ladder_of c k → Ends c k out after m.taken → record { answer = refused 10; output = after; book = book m } ≡ nexting c (book k) out
   next_none o h r lad e =
       (λ i. record { answer = refused 10; output = e.output i; book = book_after k.taken lad e.counts i })
       ∙ nexting_refused c (book k) (tracks_of c k.limits (book k).rungs) out 10 (next_ended c (book k) (tracks_of c k.limits (book k).rungs) out o (omega (arith, h, length_rungs)) r (omega (arith, e.all, ap length list_is)))
@@ -58,7 +61,7 @@ module _ {C P : Type 0} (c : Rules C P) (laws : Lawful c) (k m : Core C) (kept :
       let a = All-get_or (Admissible k.limits (ladder_of c k)) (list_of c k) k.taken [] h (list c laws k.limits (bounded k) (ladder_of c k) few).only in
       length_steps (ladder_of c k) (get_or (list_of c k) k.taken []) a.numbered ∙ length_ladder (tables_of c k) k.rungs
 
-  pub next_one : (x : Taken C) → k.closed ≡ true → k.rungs ≤ length out → k.taken < k.ration → ladder_of c m ≡ ladder_of c k → Gives c k out after m.taken x → record { answer = given x.number x.cost; output = after; book = book m } ≡ nexting c (book k) out
+  next_one : (x : Taken C) → k.closed ≡ true → k.rungs ≤ length out → k.taken < k.ration → ladder_of c m ≡ ladder_of c k → Gives c k out after m.taken x → record { answer = given x.number x.cost; output = after; book = book m } ≡ nexting c (book k) out
   next_one x o h r lad g =
       let ts = tracks_of c k.limits (book k).rungs in
       let there : k.taken < length ts = omega (arith, g.exists, ap length list_is) in
@@ -68,6 +71,11 @@ module _ {C P : Type 0} (c : Rules C P) (laws : Lawful c) (k m : Core C) (kept :
       g.output ∙ ap (λ n. steps (ladder_of c k) (get_or (list_of c k) k.taken []) ++ drop n out) (sym (steps_long g.exists)) ∙ ap (λ ss. written ss out) same in
       (λ i. record { answer = given (g.number i) (value i); output = written_is i; book = book_after (k.taken + 1) lad g.counts i })
       ∙ nexting_given c (book k) ts out (k.taken + 1) (cost c (book k).rungs (get_or ts k.taken [])) (next_found c (book k) ts out o (omega (arith, h, length_rungs)) r there)
+
+  -- either
+  pub next_done : (o : Option (Taken C)) → k.closed ≡ true → k.rungs ≤ length out → k.taken < k.ration → ladder_of c m ≡ ladder_of c k → MatchOption o (Ends c k out after m.taken) (λ x. Gives c k out after m.taken x) → record { answer = track_answer (ok_or o NoTrackLeft); output = after; book = book m } ≡ nexting c (book k) out
+  next_done None closed h r lad e = next_none closed h r lad e
+  next_done (Some x) closed h r lad g = next_one x closed h r lad g
 
 -- adding a rung
 module _ {C P : Type 0} (c : Rules C P) (k m : Core C) (ps : Rung) (grown : GrownByARung k m) where

@@ -21,9 +21,9 @@ fn copy_poses<S: Source>(source: &mut S, waypoint: u16, into: &mut [Pose])
     ensures into { into.new ≡ S.Source.meaning source.old waypoint }
     ensures same { S.Source.meaning source.new ≡ S.Source.meaning source.old }
 {
-    for j in 0..into.len() {
+    for (j, place) in into.iter_mut().enumerate() {
         if let Some(p) = source.pose(waypoint, j) {
-            into[j] = p;
+            *place = p;
         }
     }
 }
@@ -63,10 +63,7 @@ impl<'t, C: Cost> Resolver<'t, C> {
         if n > 16 {
             return Err(Refusal::TooManyPoses);
         }
-        let mut poses = [Pose {
-            shoulder: 0,
-            elbow: 0,
-        }; 16];
+        let mut poses = [Pose::default(); 16];
         Ok(self.core.append_from(source, waypoint, &mut poses[0..n]))
     }
 
@@ -104,10 +101,7 @@ impl<'t, C: Cost> Resolver<'t, C> {
         if self.core.taken >= self.core.ration {
             return Err(Refusal::RationSpent);
         }
-        match self.core.take_next(out) {
-            Some(taken) => Ok(taken),
-            None => Err(Refusal::NoTrackLeft),
-        }
+        self.core.take_next(out).ok_or(Refusal::NoTrackLeft)
     }
 
     // Takes the first untaken track of the list: answers its number and cost, and writes its steps to the first places of `out`.

@@ -19,10 +19,7 @@ impl<'t, C: Cost> Core<'t, C> {
         for (j, p) in poses.iter().enumerate() {
             self.stations[16 * r + j] = Station {
                 pose: *p,
-                waiting: 0,
-                found: 0,
-                last: Place(0),
-                pending: false,
+                ..Station::blank()
             };
         }
         self.extents[r] = Extent {

@@ -15,7 +15,7 @@ use ladder::poses::Limits;
 use ladder::rules::Cost;
 
 // What a resolver is opened with: the step limits, how many rungs it allows, and how many tracks may be taken.
-#[derive(Clone, Copy)]
+#[derive(Clone, Copy, PartialEq, Eq, Debug)]
 pub struct Setup {
     pub limits: Limits,
     pub rung_limit: usize,

@@ -70,10 +70,9 @@ impl<'t, C: Cost> Core<'t, C> {
         ensures same { Same self.old self.new }
         ensures effect { RanksTrack C.Cost.rules self.old self.new r v.0 n x result.0 }
     {
-        let mut extent = self.extents[r];
+        let extent = &mut self.extents[r];
         let at = Place(extent.ranked);
         extent.ranked = extent.ranked.saturating_add(1);
-        self.extents[r] = extent;
         let track = Ranked {
             cost: x.whole,
             pose: v,
@@ -95,11 +94,10 @@ impl<'t, C: Cost> Core<'t, C> {
         let at = self.rank(r, v, s.found, x);
         self.link(r, s, at);
         let grown = Station {
-            pose: s.pose,
-            waiting: s.waiting,
             found: s.found.saturating_add(1),
             last: at,
             pending: r > 0,
+            ..s
         };
         self.put_station(r, v, grown);
     }
@@ -177,9 +175,7 @@ impl<'t, C: Cost> Core<'t, C> {
         requires { r < self.now.rung_limit }
         ensures { IsNeeded C.Cost.rules self.now r v.0 result }
     {
-        let Some(e) = self.pending(r, v) else {
-            return None;
-        };
+        let e = self.pending(r, v)?;
         if self.followed(r - 1, e.back) {
             return None;
         }
@@ -193,16 +189,14 @@ impl<'t, C: Cost> Core<'t, C> {
         ensures low { result ≤ r }
         ensures path { Descends C.Cost.rules self.now r v path.new result }
     {
-        let mut at = r;
-        path[at] = v;
-        while at > 0 {
-            let Some(u) = self.needed(at, path[at]) else {
-                return at;
+        path[r] = v;
+        for p in (0..r).rev() {
+            let Some(u) = self.needed(p + 1, path[p + 1]) else {
+                return p + 1;
             };
-            at -= 1;
-            path[at] = u;
+            path[p] = u;
         }
-        at
+        0
     }
 
     // Finds the next rank at pose v of rung r, and before it what it needs on the rungs before.

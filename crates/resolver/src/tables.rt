@@ -31,14 +31,6 @@ pub struct Core<'t, C> {
     ghost candidates_fit: { 256 * rung_limit ≤ length candidates.now },
 }
 
-// An element of a table of any records.
-fn read<T: Copy>(xs: &[T], i: usize) -> T
-    requires { i < length xs.now }
-    ensures { (d : T) → slice_index_or xs.now i d ≡ result }
-{
-    xs[i]
-}
-
 // The numbers that the tables hold are brought into range before they are used as places, so that no access leaves its table whatever they are.
 impl<'t, C: Cost> Core<'t, C> {
     ghost use Rattle.resolver.specs.Kept.{Same};
@@ -70,8 +62,7 @@ impl<'t, C: Cost> Core<'t, C> {
         requires { r < self.now.rung_limit }
         ensures { v.0 < 16 → result ≡ station_at self.now r v.0 }
     {
-        let i = self.station_place(r, v);
-        read(self.stations, i)
+        self.stations[self.station_place(r, v)]
     }
 
     // The track at a place of rung r's ranked block.
@@ -79,8 +70,7 @@ impl<'t, C: Cost> Core<'t, C> {
         requires { r < self.now.rung_limit }
         ensures { at.0 < 16 + self.now.ration → result ≡ track_at self.now C.Cost.rules r at.0 }
     {
-        let i = self.ranked_place(r, at);
-        read(self.ranked, i)
+        self.ranked[self.ranked_place(r, at)]
     }
 
     // Writes pose v of rung r.
@@ -89,8 +79,7 @@ impl<'t, C: Cost> Core<'t, C> {
         ensures same { Same self.old self.new }
         ensures effect { PutsStation C.Cost.rules self.old self.new r v.0 s }
     {
-        let i = self.station_place(r, v);
-        self.stations[i] = s;
+        self.stations[self.station_place(r, v)] = s;
     }
 
     // Writes the track at a place of rung r's ranked block.
@@ -99,7 +88,6 @@ impl<'t, C: Cost> Core<'t, C> {
         ensures same { Same self.old self.new }
         ensures effect { PutsTrack C.Cost.rules self.old self.new r at.0 e }
     {
-        let i = self.ranked_place(r, at);
-        self.ranked[i] = e;
+        self.ranked[self.ranked_place(r, at)] = e;
     }
 }

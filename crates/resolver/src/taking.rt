@@ -52,7 +52,7 @@ impl<'t, C: Cost> Core<'t, C> {
         requires { r < self.now.rung_limit }
         ensures { IsBest C.Cost.rules self.now r result }
     {
-        let mut best: Option<PoseNumber> = None;
+        let mut best = None;
         for v in 0..self.extents[r].poses {
             best = self.better(r, best, PoseNumber(v));
         }
@@ -83,8 +83,7 @@ impl<'t, C: Cost> Core<'t, C> {
         ensures same { Same (settled self.old) self.new }
         ensures effect { Renews C.Cost.rules self.old self.new r }
     {
-        if let Some(v) = self.recent {
-            self.recent = None;
+        if let Some(v) = self.recent.take() {
             self.find_next(r, v);
         }
     }
@@ -113,14 +112,9 @@ impl<'t, C: Cost> Core<'t, C> {
         ensures counts { MatchOption result (self.new.taken ≡ self.old.taken) (λ _. self.new.taken ≡ self.old.taken + 1) }
         ensures effect { Takes C.Cost.rules self.old self.new out.old out.new result }
     {
-        if self.rungs == 0 {
-            return None;
-        }
-        let r = self.rungs - 1;
+        let r = self.rungs.checked_sub(1)?;
         self.renew(r);
-        let Some(v) = self.best(r) else {
-            return None;
-        };
+        let v = self.best(r)?;
         let at = self.station(r, v).last;
         let cost = self.last_cost(r, v);
         self.write(r, at, out);

@@ -1,5 +1,6 @@
-use Rattle.std.proofs.Common.{◌≡◌, ◌+◌, ◌*◌, ◌<◌, length, get_or, refl, subst, arith, rules}
+use Rattle.std.proofs.Common.{◌≡◌, ◌+◌, ◌*◌, ◌<◌, length, get_or, set, sym, refl, subst, arith, rules}
 use Rattle.ladder.specs.Tracks.{origin}
+use Rattle.enumeration.specs.declared.records.Station.{Station}
 use Rattle.resolver.proofs.Placing.{Written, none_written, one_written, places_rung}
 use Rattle.resolver.proofs.tables.Core.place.Goals as goal
 
@@ -15,7 +16,9 @@ loop-j-preserved g c =
     let inv = c.loop-j.invariant in
     let few : j < 16 = omega (arith, c.loop-j-test.true, c.requires) in
     let inside : 16 * r + j < length a.stations.now = omega (arith, few, a.stations_fit, inv.0.rung_limit, c.requires) in
-    (search rules, one_written c.args.self.now.stations.now a.stations.now r ps j (get_or ps j origin) few inside refl inv.1, inv.2, inv.3, inv.4)
+    let ss = c.args.self.now.stations.now in
+    let one = subst (λ (b : Station). Written ss (set a.stations.now (16 * r + j) (record b { pose = get_or ps j origin })) r ps (j + 1)) (sym c.blank.ensures) (one_written ss a.stations.now r ps j (get_or ps j origin) few inside refl inv.1) in
+    (search rules, one, inv.2, inv.3, inv.4)
 
 pub returns : goal.returns
 returns g c =

@@ -1,4 +1,4 @@
-use Rattle.std.proofs.Common.{rules}
+use Rattle.std.proofs.Common.{sym, ◌∙◌, rules}
 use Rattle.resolver.specs.Kept.{Same, settled}
 use Rattle.resolver.proofs.Renewing.{renewed}
 use Rattle.resolver.proofs.tables.Core.renew.Goals as goal
@@ -9,5 +9,5 @@ returns-in-Some g c =
     let same : Same (settled c.args.self.now) c.find_next.new.self = search rules in
     record {
       same = same;
-      effect = renewed g.C.Cost.rules c.args.self.now c.find_next.new.self same c.args.r c.in-Some.v c.in-Some.is e.effect;
+      effect = renewed g.C.Cost.rules c.args.self.now c.find_next.new.self same c.args.r c.in-Some.v (sym c.take.ensures.value ∙ c.in-Some.is) e.effect;
     }
