@@ -1,9 +1,10 @@
 -- What the calls of a sound resolver come to in its book. Assumes nothing.
-use Rattle.std.proofs.Common.{◌≡◌, ℕ, zero, suc, ◌+◌, ◌<◌, ◌≤◌, true, false, List, [], ◌∷◌, ◌++◌, length, get_or, drop, replicate, None, sym, refl, ap, ◌∙◌, subst, arith}
+use Rattle.std.proofs.Common.{◌≡◌, ℕ, zero, suc, ◌+◌, ◌<◌, ◌≤◌, true, false, List, [], ◌∷◌, ◌++◌, length, get_or, drop, replicate, Some, None, Option, MatchOption, sym, refl, ap, ◌∙◌, subst, arith}
+use Rattle.std.specs.Option.{ok_or}
 use Rattle.std.proofs.ByRecursion.{All-get_or}
 use Rattle.ladder.specs.declared.poses.Step.{Step}
 use Rattle.ladder.specs.Rules.{Rules, Lawful}
-use Rattle.ladder.specs.Tracks.{Rung, Admissible, Bounded, steps, cost}
+use Rattle.ladder.specs.Tracks.{Rung, Admissible, steps, cost}
 use Rattle.ladder.specs.Listed.{tracks_of}
 use Rattle.ladder.proofs.Endings.{list}
 use Rattle.ladder.proofs.Forward.{length_steps}
@@ -15,28 +16,15 @@ use Rattle.enumeration.proofs.Heads.{fresh_heads}
 use Rattle.enumeration.proofs.Frames.{length_ladder}
 use Rattle.book.specs.Book.{given, refused, with_rung, written, nexting}
 use Rattle.book.proofs.Replies.{next_ended, next_found, nexting_refused, nexting_given}
-use Rattle.resolver.specs.declared.held.Resolver.{Resolver}
 use Rattle.resolver.specs.declared.tables.Core.{Core}
 use Rattle.resolver.specs.declared.answers.Taken.{Taken}
-use Rattle.resolver.specs.Bounds.{Bounds}
+use Rattle.resolver.specs.declared.answers.Refusal.TheVariants.{NoTrackLeft}
+use Rattle.resolver.specs.Answers.{track_answer}
 use Rattle.resolver.specs.Tables.{tables_of}
 use Rattle.resolver.specs.Standing.{poses_in, ladder_in, book}
-use Rattle.resolver.specs.Adding.{GrownByARung}
+use Rattle.resolver.specs.Adding.{AddsRung, GrownByARung}
 use Rattle.resolver.specs.Sound.{Sound, HeadsSound, taken_at, plainly, due, SetupKept, Gives, Ends, ladder_of, list_of}
-
--- a resolver keeps its bounds
-pub bounds_of : {C : Type 0} (r : Resolver C) → Bounds r.core
-bounds_of r = record {
-  shoulder = r.shoulder;
-  elbow = r.elbow;
-  limited = r.limited;
-  rationed = r.rationed;
-  held = r.held;
-  drawn = r.drawn;
-  stations = r.stations;
-  ranked = r.ranked;
-  candidates = r.candidates;
-}
+use Rattle.resolver.proofs.Bounded.{bounded}
 
 -- the ladder of the tables is that of the book
 pub ladder_is : {C P : Type 0} (c : Rules C P) (k : Core C) (n : ℕ) → ladder_in k.stations.now k.extents n ≡ ladder (tables_of c k) n
@@ -44,10 +32,7 @@ unfolding ladder_in ladder
 ladder_is c k zero = refl
 ladder_is c k (suc n) = ap (λ rs. poses_in k.stations.now k.extents n ∷ rs) (ladder_is c k n)
 
-module _ {C P : Type 0} (c : Rules C P) (laws : Lawful c) (k m : Core C) (b : Bounds k) (kept : SetupKept k m) (out after : List Step) where
-  bounded : Bounded k.limits
-  bounded = (b.shoulder, b.elbow)
-
+module _ {C P : Type 0} (c : Rules C P) (laws : Lawful c) (k m : Core C) (kept : SetupKept k m) (out after : List Step) where
   rungs_are : ladder_of c k ≡ (book k).rungs
   rungs_are = sym (ladder_is c k k.rungs)
 
@@ -64,7 +49,7 @@ module _ {C P : Type 0} (c : Rules C P) (laws : Lawful c) (k m : Core C) (b : Bo
   length_rungs = ap length (sym rungs_are) ∙ length_ladder (tables_of c k) k.rungs
 
   -- the list is at its end
-  pub next_none : k.closed ≡ true → k.rungs ≤ length out → k.taken < k.ration → ladder_of c m ≡ ladder_of c k → Ends c k out after m.taken → record { answer = refused 10; output = after; book = book m } ≡ nexting c (book k) out
+  next_none : k.closed ≡ true → k.rungs ≤ length out → k.taken < k.ration → ladder_of c m ≡ ladder_of c k → Ends c k out after m.taken → record { answer = refused 10; output = after; book = book m } ≡ nexting c (book k) out
   next_none o h r lad e =
       (λ i. record { answer = refused 10; output = e.output i; book = book_after k.taken lad e.counts i })
       ∙ nexting_refused c (book k) (tracks_of c k.limits (book k).rungs) out 10 (next_ended c (book k) (tracks_of c k.limits (book k).rungs) out o (omega (arith, h, length_rungs)) r (omega (arith, e.all, ap length list_is)))
@@ -72,11 +57,11 @@ module _ {C P : Type 0} (c : Rules C P) (laws : Lawful c) (k m : Core C) (b : Bo
   -- the track that is given has as many steps as there are rungs
   steps_long : k.taken < length (list_of c k) → length (steps (ladder_of c k) (get_or (list_of c k) k.taken [])) ≡ k.rungs
   steps_long h =
-      let few : length (ladder_of c k) ≤ 128 = omega (arith, length_ladder (tables_of c k) k.rungs, b.held, b.limited) in
-      let a = All-get_or (Admissible k.limits (ladder_of c k)) (list_of c k) k.taken [] h (list c laws k.limits bounded (ladder_of c k) few).only in
+      let few : length (ladder_of c k) ≤ 128 = omega (arith, length_ladder (tables_of c k) k.rungs, k.held, k.limited) in
+      let a = All-get_or (Admissible k.limits (ladder_of c k)) (list_of c k) k.taken [] h (list c laws k.limits (bounded k) (ladder_of c k) few).only in
       length_steps (ladder_of c k) (get_or (list_of c k) k.taken []) a.numbered ∙ length_ladder (tables_of c k) k.rungs
 
-  pub next_one : (x : Taken C) → k.closed ≡ true → k.rungs ≤ length out → k.taken < k.ration → ladder_of c m ≡ ladder_of c k → Gives c k out after m.taken x → record { answer = given x.number x.cost; output = after; book = book m } ≡ nexting c (book k) out
+  next_one : (x : Taken C) → k.closed ≡ true → k.rungs ≤ length out → k.taken < k.ration → ladder_of c m ≡ ladder_of c k → Gives c k out after m.taken x → record { answer = given x.number x.cost; output = after; book = book m } ≡ nexting c (book k) out
   next_one x o h r lad g =
       let ts = tracks_of c k.limits (book k).rungs in
       let there : k.taken < length ts = omega (arith, g.exists, ap length list_is) in
@@ -86,6 +71,11 @@ module _ {C P : Type 0} (c : Rules C P) (laws : Lawful c) (k m : Core C) (b : Bo
       g.output ∙ ap (λ n. steps (ladder_of c k) (get_or (list_of c k) k.taken []) ++ drop n out) (sym (steps_long g.exists)) ∙ ap (λ ss. written ss out) same in
       (λ i. record { answer = given (g.number i) (value i); output = written_is i; book = book_after (k.taken + 1) lad g.counts i })
       ∙ nexting_given c (book k) ts out (k.taken + 1) (cost c (book k).rungs (get_or ts k.taken [])) (next_found c (book k) ts out o (omega (arith, h, length_rungs)) r there)
+
+  -- either
+  pub next_done : (o : Option (Taken C)) → k.closed ≡ true → k.rungs ≤ length out → k.taken < k.ration → ladder_of c m ≡ ladder_of c k → MatchOption o (Ends c k out after m.taken) (λ x. Gives c k out after m.taken x) → record { answer = track_answer (ok_or o NoTrackLeft); output = after; book = book m } ≡ nexting c (book k) out
+  next_done None closed h r lad e = next_none closed h r lad e
+  next_done (Some x) closed h r lad g = next_one x closed h r lad g
 
 -- adding a rung
 module _ {C P : Type 0} (c : Rules C P) (k m : Core C) (ps : Rung) (grown : GrownByARung k m) where
@@ -131,3 +121,9 @@ open_sound c k e t o d cs = record {
   untaken = λ _. record { rungs = λ r h. absurd (let no_way : ⊥ = omega (arith, h, e) in no_way); taken = t; counts = cs; recent = o };
   heads = subst (HeadsSound c k) (sym e) t;
 }
+
+-- adding the list of a source, which answered the rung ps, keeps the tables sound and adds the rung to the book
+pub added : {C P : Type 0} (c : Rules C P) (k m : Core C) (list : Rung) → GrownByARung k m → Sound c k → k.closed ≡ false → 1 ≤ length list → {ps : Rung} → ps ≡ list → AddsRung c k m ps → Sound c m × (book m ≡ with_rung (book k) list)
+added c k m list grown s o some {ps} same effect =
+    let f = effect (omega (arith, some, ap length same)) (filled_of c k m list grown s o) in
+    (add_sound c k m list grown s o f.0, add_book c k m list grown (f.1 ∙ ap (λ qs. qs ∷ ladder (tables_of c k) k.rungs) same))

@@ -2,7 +2,6 @@
 use Rattle.std.proofs.Common.{◌≡◌, ℕ, suc, ◌+◌, ◌<◌, ◌≤◌, List, None, refl, subst, arith}
 use Rattle.ladder.specs.declared.poses.PoseNumber.{PoseNumber}
 use Rattle.ladder.specs.Rules.{Rules, Lawful}
-use Rattle.ladder.specs.Tracks.{Bounded}
 use Rattle.enumeration.specs.Tables.{Tables}
 use Rattle.enumeration.specs.Sound.{RungsSound}
 use Rattle.enumeration.specs.Writes.{Readable, Advanceable, Advanced, PathDown, needed_at, path_at}
@@ -11,16 +10,16 @@ use Rattle.enumeration.proofs.Frames.{ladder_same}
 use Rattle.enumeration.proofs.Advancing.{advances}
 use Rattle.enumeration.proofs.Climbing.{Climb, Wants, climb_begins, climbs, readable_at, advanceable_at, none_needed, some_needed}
 use Rattle.resolver.specs.declared.tables.Core.{Core}
-use Rattle.resolver.specs.Bounds.{Bounds, Same}
+use Rattle.resolver.specs.Kept.{Same}
 use Rattle.resolver.specs.Tables.{tables_of, width}
 use Rattle.resolver.specs.Effects.{AdvancesPose, Descends}
 use Rattle.resolver.specs.Finding.{RoomyTables, FindsNext}
+use Rattle.resolver.proofs.Bounded.{bounded}
 use Rattle.resolver.proofs.Premises.{sound_backed}
 
 module _ {C P : Type 0} (c : Rules C P) (laws : Lawful c) where
   -- the first n rungs of the resolver k are sound and roomy, and path leads from rung r down to rung low, where nothing has to be found on the rung before
   pub record Begins (k : Core C) (r : ℕ) (path : List PoseNumber) (low n : ℕ) : Type 0 where
-    pub bounded : Bounded k.limits
     pub few : n ≤ 128
     pub inside : r < n
     pub below : low ≤ r
@@ -33,7 +32,7 @@ module _ {C P : Type 0} (c : Rules C P) (laws : Lawful c) where
   -- from the resolver k to the resolver m the search climbed along path from rung low to rung i
   abbrev pub Climbs : Core C → Core C → ℕ → List PoseNumber → ℕ → ℕ → Type 0
   Climbs k m r path low i =
-      (n : ℕ) (h : Begins k r path low n) → Climb c laws k.limits h.bounded (width k) n h.few (tables_of c k) (tables_of c m) (λ j. (path_at path j).0) r i
+      (n : ℕ) (h : Begins k r path low n) → Climb c laws k.limits (bounded k) (width k) n h.few (tables_of c k) (tables_of c m) (λ j. (path_at path j).0) r i
 
   module _ (k : Core C) (r : ℕ) (path : List PoseNumber) (low n : ℕ) (h : Begins k r path low n) where
     abbrev t₀ : Tables C
@@ -42,14 +41,14 @@ module _ {C P : Type 0} (c : Rules C P) (laws : Lawful c) where
     within : (q : ℕ) → q < n → t₀.used q ≤ width k
     within q x = omega (arith, h.roomy.blocks q x)
 
-    chain : (j : ℕ) → low ≤ j → j < r → Wants c laws k.limits h.bounded (width k) n h.few t₀ j (path_at path (suc j)).0 (path_at path j).0
-    chain j lo hi = some_needed c laws k.limits h.bounded (width k) n h.few t₀ h.sound within j (path_at path (suc j)).0 (path_at path j) (omega (arith, h.inside)) (h.down.numbered (suc j) (omega arith) hi) (h.down.steps j lo hi)
+    chain : (j : ℕ) → low ≤ j → j < r → Wants c laws k.limits (bounded k) (width k) n h.few t₀ j (path_at path (suc j)).0 (path_at path j).0
+    chain j lo hi = some_needed c laws k.limits (bounded k) (width k) n h.few t₀ h.sound within j (path_at path (suc j)).0 (path_at path j) (omega (arith, h.inside)) (h.down.numbered (suc j) (omega arith) hi) (h.down.steps j lo hi)
 
-    start : Climb c laws k.limits h.bounded (width k) n h.few t₀ t₀ (λ j. (path_at path j).0) r low
+    start : Climb c laws k.limits (bounded k) (width k) n h.few t₀ t₀ (λ j. (path_at path j).0) r low
     start =
-        climb_begins c laws k.limits h.bounded (width k) n h.few (advances c laws) t₀ h.sound h.roomy.blocks (λ j. (path_at path j).0) low r h.inside h.down.numbered chain
+        climb_begins c laws k.limits (bounded k) (width k) n h.few (advances c laws) t₀ h.sound h.roomy.blocks (λ j. (path_at path j).0) low r h.inside h.down.numbered chain
         h.below
-        (none_needed c laws k.limits h.bounded (width k) n h.few t₀ low (path_at path low).0 h.ready)
+        (none_needed c laws k.limits (bounded k) (width k) n h.few t₀ low (path_at path low).0 h.ready)
 
   -- the search begins where nothing has to be found on the rung before
   pub climb_starts : (k : Core C) (r : ℕ) (path : List PoseNumber) (low : ℕ) → Climbs k k r path low low
@@ -65,14 +64,14 @@ module _ {C P : Type 0} (c : Rules C P) (laws : Lawful c) where
   -- one rung up
   pub climb_goes_on : (k m a : Core C) (r : ℕ) (path : List PoseNumber) (low i : ℕ) → Same k m → low ≤ i → i ≤ r → Climbs k m r path low i → AdvancesPose c m a i (path_at path i).0 → Climbs k a r path low (i + 1)
   climb_goes_on k m a r path low i same lo hi climbing advanced n h =
-      subst (λ z. Climb c laws k.limits h.bounded (width k) n h.few (tables_of c k) (tables_of c a) (λ j. (path_at path j).0) r z) (let next : suc i ≡ i + 1 = omega arith in next)
-      (climbs c laws k.limits h.bounded (width k) n h.few (advances c laws) (tables_of c k) h.sound h.roomy.blocks (λ j. (path_at path j).0) low r h.inside h.down.numbered (chain k r path low n h) t i lo hi at (tables_of c a)
-      (advances_as k m a same i (path_at path i).0 advanced number (readable_at c laws k.limits h.bounded (width k) n h.few t at.sound fits i (path_at path i).0 inside here) (advanceable_at c laws k.limits h.bounded (width k) n h.few t at.sound fits i (path_at path i).0 inside here free small)))
+      subst (λ z. Climb c laws k.limits (bounded k) (width k) n h.few (tables_of c k) (tables_of c a) (λ j. (path_at path j).0) r z) (let next : suc i ≡ i + 1 = omega arith in next)
+      (climbs c laws k.limits (bounded k) (width k) n h.few (advances c laws) (tables_of c k) h.sound h.roomy.blocks (λ j. (path_at path j).0) low r h.inside h.down.numbered (chain k r path low n h) t i lo hi at (tables_of c a)
+      (advances_as k m a same i (path_at path i).0 advanced number (readable_at c laws k.limits (bounded k) (width k) n h.few t at.sound fits i (path_at path i).0 inside here) (advanceable_at c laws k.limits (bounded k) (width k) n h.few t at.sound fits i (path_at path i).0 inside here free small)))
     where
       t : Tables C
       t = tables_of c m
 
-      at : Climb c laws k.limits h.bounded (width k) n h.few (tables_of c k) (tables_of c m) (λ j. (path_at path j).0) r i
+      at : Climb c laws k.limits (bounded k) (width k) n h.few (tables_of c k) (tables_of c m) (λ j. (path_at path j).0) r i
       at = climbing n h
 
       inside : i < n
@@ -94,8 +93,8 @@ module _ {C P : Type 0} (c : Rules C P) (laws : Lawful c) where
       small = omega (arith, at.found i (path_at path i).0 inside here, h.roomy.ranks i (path_at path i).0 inside (h.down.numbered i lo hi))
 
   -- past rung r the rank looked for is found
-  pub climb_ends : (k m : Core C) (r : ℕ) (v : PoseNumber) (path : List PoseNumber) (low : ℕ) → Bounds k → low ≤ r → Descends c k r v path low → Climbs k m r path low (suc r) → FindsNext c k m r v.0
-  climb_ends k m r v path low bounds below descends climbing n few inside number sound roomy =
+  pub climb_ends : (k m : Core C) (r : ℕ) (v : PoseNumber) (path : List PoseNumber) (low : ℕ) → low ≤ r → Descends c k r v path low → Climbs k m r path low (suc r) → FindsNext c k m r v.0
+  climb_ends k m r v path low below descends climbing n few inside number sound roomy =
       record {
         sound = at.sound;
         same = record { sizes = at.same.sizes; rungs = ladder_same (tables_of c k) (tables_of c m) n n at.same (omega arith) };
@@ -107,9 +106,8 @@ module _ {C P : Type 0} (c : Rules C P) (laws : Lawful c) where
       goes : PathDown (tables_of c k) r v path low × (needed_at (tables_of c k) low (path_at path low).0 ≡ None)
       goes = descends number (sound_backed c k.limits (width k) n (tables_of c k) sound (λ q x. omega (arith, roomy.blocks q x)) r inside)
 
-      at : Climb c laws k.limits (bounds.shoulder, bounds.elbow) (width k) n few (tables_of c k) (tables_of c m) (λ j. (path_at path j).0) r (suc r)
+      at : Climb c laws k.limits (bounded k) (width k) n few (tables_of c k) (tables_of c m) (λ j. (path_at path j).0) r (suc r)
       at = climbing n (record {
-        bounded = (bounds.shoulder, bounds.elbow);
         few = few;
         inside = inside;
         below = below;

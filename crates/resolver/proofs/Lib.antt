@@ -1,5 +1,7 @@
+pub mod Codes
 pub mod Copies
 pub mod Rungs
+mod Bounded
 mod Slices
 mod Blocks
 mod Appending

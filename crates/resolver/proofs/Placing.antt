@@ -30,20 +30,7 @@ one_written ss zs r ps j p few inside is w = record { new = λ v h. at v h (case
 
 -- a resolver with other extents
 abbrev pub with_extents : {C : Type 0} → Core C → List Extent → Core C
-with_extents k es = record {
-  stations = k.stations;
-  ranked = k.ranked;
-  candidates = k.candidates;
-  extents = es;
-  limits = k.limits;
-  rung_limit = k.rung_limit;
-  ration = k.ration;
-  rungs = k.rungs;
-  closed = k.closed;
-  taken = k.taken;
-  counts = k.counts;
-  recent = k.recent;
-}
+with_extents k es = record k { extents = es }
 
 -- once all are written, from k to a, the extent of the rung is
 pub places_rung : {C P : Type 0} (c : Rules C P) (k a : Core C) (r : ℕ) (ps : Rung) → Written k.stations.now a.stations.now r ps (length ps) → a.ranked.now ≡ k.ranked.now → a.ration ≡ k.ration → a.candidates.now ≡ k.candidates.now → a.extents ≡ k.extents → r < length a.extents → PlacesRung c k (with_extents a (set a.extents r (record { poses = length ps; ranked = 0 }))) r ps

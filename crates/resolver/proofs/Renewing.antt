@@ -9,7 +9,7 @@ use Rattle.enumeration.specs.Filling.{SameLadder}
 use Rattle.enumeration.specs.Taking.{Heads}
 use Rattle.enumeration.proofs.Heads.{renewed_heads}
 use Rattle.resolver.specs.declared.tables.Core.{Core}
-use Rattle.resolver.specs.Bounds.{Bounds, Same, settled}
+use Rattle.resolver.specs.Kept.{Same, settled}
 use Rattle.resolver.specs.Tables.{tables_of, width}
 use Rattle.resolver.specs.Finding.{FoundNext, RoomyTables, FindsNext}
 use Rattle.resolver.specs.Sound.{Sound, HeadsSound, taken_at, plainly, due, Renews}
@@ -23,14 +23,14 @@ abbrev first : {X : Type 0} → X → List X → X
 first d [] = d
 first d (x ∷ xs) = x
 
-module _ {C P : Type 0} (c : Rules C P) (k m : Core C) (b : Bounds k) (same : Same (settled k) m) where
+module _ {C P : Type 0} (c : Rules C P) (k m : Core C) (same : Same (settled k) m) where
   -- what is due leaves a place free in every block
   roomy : (v : PoseNumber) → k.recent ≡ Some v → Sound c k → k.taken < k.ration → RoomyTables (width k) k.rungs (tables_of c k)
   roomy v e s lt =
       let one : due k.recent ≡ 1 = ap due e in
       record {
         blocks = λ q h. omega (arith, s.blocks q h, one, (s.rungs q h).few, lt);
-        ranks = λ q u h i. omega (arith, s.ranks q u h i, one, lt, b.rationed);
+        ranks = λ q u h i. omega (arith, s.ranks q u h i, one, lt, k.rationed);
       }
 
   -- the last rung and those before it
@@ -53,7 +53,7 @@ module _ {C P : Type 0} (c : Rules C P) (k m : Core C) (b : Bounds k) (same : Sa
       let one : due k.recent ≡ 1 = ap due q in
       let hr : r < k.rungs = omega (arith, e) in
       let inside : v.0 < (tables_of c k).size r = (subst (λ (o : Option PoseNumber). Heads c k.limits (tables_of c k) r (taken_at k) k.taken (plainly o)) q (subst (HeadsSound c k) e s.heads)).inside in
-      let f = finds k.rungs (omega (arith, b.held, b.limited)) hr inside s.rungs (roomy v q s lt) in
+      let f = finds k.rungs (omega (arith, k.held, k.limited)) hr inside s.rungs (roomy v q s lt) in
       let none : due m.recent ≡ 0 = ap due same.recent in (
         record {
           rungs = subst (λ l. RungsSound c l (tables_of c m) m.rungs) (sym same.limits) (subst (λ n. RungsSound c k.limits (tables_of c m) n) (sym same.rungs) f.sound);

@@ -10,7 +10,6 @@ use Rattle.resolver.specs.declared.answers.Refusal.{Refusal}
 use Rattle.resolver.specs.declared.answers.Refusal.TheVariants.{StillOpen, ShortOutput}
 use Rattle.resolver.specs.declared.tables.Core.{Core}
 use Rattle.resolver.specs.Answers.{count_answer, track_answer}
-use Rattle.resolver.specs.Sound.{Sound}
 use Rattle.resolver.specs.Standing.{book}
 
 -- the events of a run that the calls are: adding a source's list, closing, next and seeking, with an output before and after
@@ -26,9 +25,9 @@ nexted before r after = record { call = next before; answer = track_answer r; ou
 abbrev pub sought : {C : Type 0} → Filter → List Step → Result (Taken C) Refusal → List Step → Event C
 sought f before r after = record { call = seek f before; answer = track_answer r; output = after }
 
--- the call e takes a resolver that holds k to one that holds m: sound tables stay sound, and the answer, the output and the book after are those of the plain book
+-- the call e takes a resolver that holds k to one that holds m: the answer, the output and the book after are those of the plain book
 abbrev pub Makes : {C P : Type 0} → Rules C P → Core C → Event C → Core C → Type 0
-Makes c k e m = Sound c k → Sound c m × (record { answer = e.answer; output = e.output; book = book m } ≡ outcome c (book k) e.call)
+Makes c k e m = record { answer = e.answer; output = e.output; book = book m } ≡ outcome c (book k) e.call
 
 -- the calls es, made one after another from k on, each finding what the one before left
 abbrev pub Chain : {C P : Type 0} → Rules C P → Core C → List (Event C) → Type 0

@@ -1,5 +1,6 @@
 pub mod Answers
-pub mod Bounds
+pub mod Kept
+pub mod Opening
 pub mod Tables
 pub mod Standing
 pub mod Effects

@@ -69,21 +69,11 @@ module _ {C P : Type 0} (c : Rules C P) (k : Core C) where
       (n : ℕ) → r < n → RungsSound c k.limits (tables_of c k) n → ((q : ℕ) → q < n → (tables_of c k).used q ≤ width k) → i < (tables_of c k).used r → after ≡ steps (ladder (tables_of c k) (suc r)) (slice_index_or (ends c k.limits (tables_of c k) r ((tables_of c k).track r i).pose.0) ((tables_of c k).track r i).rank.0 []) ++ drop (suc r) before
 
 -- one track more is taken, at pose v of the last rung
-abbrev pub counted : {C : Type 0} → Core C → PoseNumber → Core C
-counted k v = record {
-  stations = k.stations;
-  ranked = k.ranked;
-  candidates = k.candidates;
-  extents = k.extents;
-  limits = k.limits;
-  rung_limit = k.rung_limit;
-  ration = k.ration;
-  rungs = k.rungs;
-  closed = k.closed;
-  taken = k.taken + 1;
-  counts = slice_set k.counts v.0 (taken_at k v.0 + 1);
-  recent = Some v;
-}
+pub record Counted {C P : Type 0} (c : Rules C P) (k m : Core C) (v : PoseNumber) : Type 0 where
+  pub tables : tables_of c m ≡ tables_of c k
+  pub taken : m.taken ≡ k.taken + 1
+  pub counts : m.counts ≡ slice_set k.counts v.0 (taken_at k v.0 + 1)
+  pub recent : m.recent ≡ Some v
 
 module _ {C P : Type 0} (c : Rules C P) (k m : Core C) where
   -- the track after the one taken last was looked for on rung r, the last: nothing is due any more, and what the tables stand for is kept

@@ -2,29 +2,29 @@
 ghost use Rattle.std.specs.Prelude.{◌≡◌};
 ghost use Rattle.resolver.specs.Answers.{number};
 
-// Why a call is refused: the question that got a no.
-#[derive(Clone, Copy)]
+// Why a call is refused: the question that got a no, by its number.
+#[derive(Clone, Copy, PartialEq, Eq, Debug)]
 pub enum Refusal {
     // the rung limit is not 1 to 128, or the ration not 1 to 4,096
-    OutOfRange,
+    OutOfRange = 1,
     // a table is too short
-    ShortTable,
+    ShortTable = 2,
     // the ladder is closed
-    Closed,
+    Closed = 3,
     // there are as many rungs as the limit allows
-    NoRungLeft,
+    NoRungLeft = 4,
     // the source has no pose for the waypoint
-    NoPose,
+    NoPose = 5,
     // the source has more than 16 poses for the waypoint
-    TooManyPoses,
+    TooManyPoses = 6,
     // the ladder is not closed
-    StillOpen,
+    StillOpen = 7,
     // the output has fewer places than there are rungs
-    ShortOutput,
+    ShortOutput = 8,
     // as many tracks are taken as the ration allows
-    RationSpent,
+    RationSpent = 9,
     // no admissible track is untaken
-    NoTrackLeft,
+    NoTrackLeft = 10,
 }
 
 impl Refusal {
@@ -32,23 +32,12 @@ impl Refusal {
     pub fn number(self) -> u8
         ensures { result ≡ number self }
     {
-        match self {
-            Refusal::OutOfRange => 1,
-            Refusal::ShortTable => 2,
-            Refusal::Closed => 3,
-            Refusal::NoRungLeft => 4,
-            Refusal::NoPose => 5,
-            Refusal::TooManyPoses => 6,
-            Refusal::StillOpen => 7,
-            Refusal::ShortOutput => 8,
-            Refusal::RationSpent => 9,
-            Refusal::NoTrackLeft => 10,
-        }
+        self as u8
     }
 }
 
 // A track that was taken: its number in the list, from 1, and its cost.
-#[derive(Clone, Copy)]
+#[derive(Clone, Copy, PartialEq, Eq, Debug)]
 pub struct Taken<C> {
     pub number: usize,
     pub cost: C,

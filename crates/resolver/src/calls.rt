@@ -1,11 +1,10 @@
 // Adding, closing, next and seeking.
 ghost use Rattle.std.specs.Prelude.{◌≡◌, ◌+◌, ◌<◌, ◌≤◌, true, false, [], length, MatchResult, OnOk};
-ghost use Rattle.book.specs.Book.{adding, closing, nexting};
-ghost use Rattle.resolver.specs.Sound.{Sound, SetupKept};
+ghost use Rattle.book.specs.Book.{adding, closing, nexting, seeking};
+ghost use Rattle.resolver.specs.Sound.{SetupKept};
 ghost use Rattle.resolver.specs.Answers.{count_answer, track_answer};
 ghost use Rattle.resolver.specs.Adding.{AddsRung, GrownByARung};
-ghost use Rattle.resolver.specs.Bounds.{Bounds};
-ghost use Rattle.resolver.specs.Calls.{Makes, Unready, nexted, sought};
+ghost use Rattle.resolver.specs.Calls.{Unready};
 ghost use Rattle.resolver.specs.Standing.{book};
 
 use crate::answers::{Refusal, Taken};
@@ -22,9 +21,9 @@ fn copy_poses<S: Source>(source: &mut S, waypoint: u16, into: &mut [Pose])
     ensures into { into.new ≡ S.Source.meaning source.old waypoint }
     ensures same { S.Source.meaning source.new ≡ S.Source.meaning source.old }
 {
-    for j in 0..into.len() {
+    for (j, place) in into.iter_mut().enumerate() {
         if let Some(p) = source.pose(waypoint, j) {
-            into[j] = p;
+            *place = p;
         }
     }
 }
@@ -32,8 +31,9 @@ fn copy_poses<S: Source>(source: &mut S, waypoint: u16, into: &mut [Pose])
 impl<'t, C: Cost> Core<'t, C> {
     // Appends the rung of the source's list at a waypoint, which `poses` has just the places for.
     fn append_from<S: Source>(&mut self, source: &mut S, waypoint: u16, poses: &mut [Pose]) -> usize
-        requires { (Bounds self.old) × ((self.old.rungs < self.old.rung_limit) × ((length poses.old ≤ 16) × (length poses.old ≡ length (S.Source.meaning source.old waypoint)))) }
-        ensures bounds { Bounds self.new }
+        requires rung { self.old.rungs < self.old.rung_limit }
+        requires few { length poses.old ≤ 16 }
+        requires long { length poses.old ≡ length (S.Source.meaning source.old waypoint) }
         ensures count { (result ≡ self.old.rungs + 1) × (self.new.rungs ≡ result) }
         ensures grown { GrownByARung self.old self.new }
         ensures effect { AddsRung C.Cost.rules self.old self.new (S.Source.meaning source.old waypoint) }
@@ -47,7 +47,7 @@ impl<'t, C: Cost> Core<'t, C> {
 impl<'t, C: Cost> Resolver<'t, C> {
     // Adds a rung that holds the source's list at the waypoint; answers the new rung count.
     pub fn add<S: Source>(&mut self, source: &mut S, waypoint: u16) -> Result<usize, Refusal>
-        ensures outcome { Sound C.Cost.rules self.old.core → Sound C.Cost.rules self.new.core × (record { answer = count_answer {V = C} result; output = []; book = book self.new.core } ≡ adding (book self.old.core) (S.Source.meaning source.old waypoint)) }
+        ensures outcome { record { answer = count_answer {V = C} result; output = []; book = book self.new.core } ≡ adding (book self.old.core) (S.Source.meaning source.old waypoint) }
         ensures same { S.Source.meaning source.new ≡ S.Source.meaning source.old }
     {
         if self.core.closed {
@@ -63,17 +63,13 @@ impl<'t, C: Cost> Resolver<'t, C> {
         if n > 16 {
             return Err(Refusal::TooManyPoses);
         }
-        let mut poses = [Pose {
-            shoulder: 0,
-            elbow: 0,
-        }; 16];
+        let mut poses = [Pose::default(); 16];
         Ok(self.core.append_from(source, waypoint, &mut poses[0..n]))
     }
 
     // Closes the ladder; answers the rung count.
     pub fn close(&mut self) -> Result<usize, Refusal>
         ensures outcome { record { answer = count_answer {V = C} result; output = []; book = book self.new.core } ≡ closing (book self.old.core) }
-        ensures sound { Sound C.Cost.rules self.old.core → Sound C.Cost.rules self.new.core }
     {
         if self.core.closed {
             return Err(Refusal::Closed);
@@ -98,22 +94,19 @@ impl<'t, C: Cost> Resolver<'t, C> {
     // Takes the first untaken track, where one can be asked for.
     fn take(&mut self, out: &mut [Step]) -> Result<Taken<C>, Refusal>
         requires { (self.old.core.closed ≡ true) × (self.old.core.rungs ≤ length out.old) }
-        ensures outcome { Makes C.Cost.rules self.old.core (nexted out.old result out.new) self.new.core }
+        ensures outcome { record { answer = track_answer result; output = out.new; book = book self.new.core } ≡ nexting C.Cost.rules (book self.old.core) out.old }
         ensures kept { SetupKept self.old.core self.new.core }
         ensures counts { OnOk result (self.new.core.taken ≡ self.old.core.taken + 1) }
     {
         if self.core.taken >= self.core.ration {
             return Err(Refusal::RationSpent);
         }
-        match self.core.take_next(out) {
-            Some(taken) => Ok(taken),
-            None => Err(Refusal::NoTrackLeft),
-        }
+        self.core.take_next(out).ok_or(Refusal::NoTrackLeft)
     }
 
     // Takes the first untaken track of the list: answers its number and cost, and writes its steps to the first places of `out`.
     pub fn next(&mut self, out: &mut [Step]) -> Result<Taken<C>, Refusal>
-        ensures outcome { Sound C.Cost.rules self.old.core → Sound C.Cost.rules self.new.core × (record { answer = track_answer result; output = out.new; book = book self.new.core } ≡ nexting C.Cost.rules (book self.old.core) out.old) }
+        ensures outcome { record { answer = track_answer result; output = out.new; book = book self.new.core } ≡ nexting C.Cost.rules (book self.old.core) out.old }
     {
         self.ready(out.len())?;
         self.take(out)
@@ -122,7 +115,7 @@ impl<'t, C: Cost> Resolver<'t, C> {
     // Takes untaken tracks in the order of the list until one passes the filter: answers its number and cost, and writes its steps to the first
     // places of `out`. Those that are turned down are taken too, and where none passes the last of them stays in `out`.
     pub fn seek<F: Filter>(&mut self, filter: &mut F, out: &mut [Step]) -> Result<Taken<C>, Refusal>
-        ensures outcome { Makes C.Cost.rules self.old.core (sought (F.Filter.passes filter.old) out.old result out.new) self.new.core }
+        ensures outcome { record { answer = track_answer result; output = out.new; book = book self.new.core } ≡ seeking C.Cost.rules (book self.old.core) (F.Filter.passes filter.old) out.old }
         ensures same { F.Filter.passes filter.new ≡ F.Filter.passes filter.old }
     {
         self.ready(out.len())?;

@@ -1,7 +1,7 @@
 // Adding a rung.
 ghost use Rattle.std.specs.Prelude.{◌≡◌, ◌+◌, ◌<◌, ◌≤◌, length};
 ghost use Rattle.resolver.specs.Adding.{AddsRung, EntersEach, EntersFirstOf, GrownByARung, PlacesRung, SettlesPose};
-ghost use Rattle.resolver.specs.Bounds.{Bounds, Same};
+ghost use Rattle.resolver.specs.Kept.{Same};
 
 use crate::tables::Core;
 use enumeration::{Back, Candidate, Extent, Place, Rank, Station};
@@ -11,18 +11,15 @@ use ladder::rules::Cost;
 impl<'t, C: Cost> Core<'t, C> {
     // Writes the poses of rung r, where nothing is found yet and nothing waits.
     fn place(&mut self, r: usize, poses: &[Pose])
-        requires { (Bounds self.old) × ((r < self.old.rung_limit) × (length poses.now ≤ 16)) }
-        ensures bounds { Bounds self.new }
+        requires rung { r < self.old.rung_limit }
+        requires few { length poses.now ≤ 16 }
         ensures same { Same self.old self.new }
         ensures effect { PlacesRung C.Cost.rules self.old self.new r poses.now }
     {
         for (j, p) in poses.iter().enumerate() {
             self.stations[16 * r + j] = Station {
                 pose: *p,
-                waiting: 0,
-                found: 0,
-                last: Place(0),
-                pending: false,
+                ..Station::blank()
             };
         }
         self.extents[r] = Extent {
@@ -33,8 +30,8 @@ impl<'t, C: Cost> Core<'t, C> {
 
     // Enters the first rank at pose u of the rung before, if it has one, as a candidate at pose v of rung r.
     fn enter_from(&mut self, r: usize, v: PoseNumber, u: PoseNumber)
-        requires { (Bounds self.old) × ((r < self.old.rung_limit) × (0 < r)) }
-        ensures bounds { Bounds self.new }
+        requires rung { r < self.old.rung_limit }
+        requires above { 0 < r }
         ensures same { Same self.old self.new }
         ensures effect { EntersFirstOf C.Cost.rules self.old self.new r v.0 u.0 }
     {
@@ -46,8 +43,8 @@ impl<'t, C: Cost> Core<'t, C> {
 
     // Enters the first rank of each pose of the rung before.
     fn enter_all(&mut self, r: usize, v: PoseNumber)
-        requires { (Bounds self.old) × ((r < self.old.rung_limit) × (0 < r)) }
-        ensures bounds { Bounds self.new }
+        requires rung { r < self.old.rung_limit }
+        requires above { 0 < r }
         ensures same { Same self.old self.new }
         ensures effect { EntersEach C.Cost.rules self.old self.new r v.0 }
     {
@@ -59,8 +56,7 @@ impl<'t, C: Cost> Core<'t, C> {
 
     // Finds the first rank at pose v of rung r.
     fn settle(&mut self, r: usize, v: PoseNumber)
-        requires { (Bounds self.old) × (r < self.old.rung_limit) }
-        ensures bounds { Bounds self.new }
+        requires { r < self.old.rung_limit }
         ensures same { Same self.old self.new }
         ensures effect { SettlesPose C.Cost.rules self.old self.new r v.0 }
     {
@@ -85,8 +81,8 @@ impl<'t, C: Cost> Core<'t, C> {
 
     // Appends a rung of these poses.
     pub(crate) fn append_rung(&mut self, poses: &[Pose]) -> usize
-        requires { (Bounds self.old) × ((self.old.rungs < self.old.rung_limit) × (length poses.now ≤ 16)) }
-        ensures bounds { Bounds self.new }
+        requires rung { self.old.rungs < self.old.rung_limit }
+        requires few { length poses.now ≤ 16 }
         ensures count { (result ≡ self.old.rungs + 1) × (self.new.rungs ≡ result) }
         ensures grown { GrownByARung self.old self.new }
         ensures effect { AddsRung C.Cost.rules self.old self.new poses.now }

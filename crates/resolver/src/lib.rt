@@ -13,4 +13,4 @@ mod taking;
 
 pub use answers::{Refusal, Taken};
 pub use held::Resolver;
-pub use opening::sizes;
+pub use opening::{LentTables, Setup, sizes};

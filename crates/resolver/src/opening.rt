@@ -1,10 +1,9 @@
 // The sizes call and opening.
-ghost use Rattle.std.specs.Prelude.{◌≡◌, ℕ, length};
-ghost use Rattle.book.specs.Book.{sizing, opened, new_book};
-ghost use Rattle.ladder.specs.declared.poses.Limits.{Limits};
+ghost use Rattle.std.specs.Prelude.{◌≡◌, ℕ};
+ghost use Rattle.book.specs.Book.{sizing, new_book};
 ghost use Rattle.resolver.specs.Answers.{size_answer};
-ghost use Rattle.resolver.specs.Bounds.{Bounds, Roomy};
 ghost use Rattle.resolver.specs.Calls.{KeepsPromise};
+ghost use Rattle.resolver.specs.Opening.{Roomy, opened_over};
 ghost use Rattle.resolver.specs.Sound.{Sound};
 ghost use Rattle.resolver.specs.Standing.{book};
 
@@ -14,6 +13,22 @@ use crate::tables::Core;
 use enumeration::{Candidate, Extent, Ranked, Station};
 use ladder::poses::Limits;
 use ladder::rules::Cost;
+
+// What a resolver is opened with: the step limits, how many rungs it allows, and how many tracks may be taken.
+#[derive(Clone, Copy, PartialEq, Eq, Debug)]
+pub struct Setup {
+    pub limits: Limits,
+    pub rung_limit: usize,
+    pub ration: usize,
+}
+
+// The three tables that a resolver is lent.
+#[derive(Drop)]
+pub struct LentTables<'t, C> {
+    pub stations: &'t mut [Station],
+    pub ranked: &'t mut [Ranked<C>],
+    pub candidates: &'t mut [Candidate<C>],
+}
 
 // Whether a resolver can be opened for `rung_limit` rungs and `ration` tracks over tables of these lengths.
 pub fn sizes(
@@ -37,60 +52,25 @@ pub fn sizes(
     Ok(())
 }
 
-// The rung limit and the ration that a resolver works with: those given, or 0 and 1 where the sizes call refuses them.
-fn fitted(
-    rung_limit: usize,
-    ration: usize,
-    stations: usize,
-    ranked: usize,
-    candidates: usize,
-) -> (usize, usize)
-    ensures roomy { Roomy result.0 result.1 stations ranked candidates }
-    ensures opens { (l : Limits) → opened l rung_limit ration stations ranked candidates ≡ new_book l result.0 result.1 }
-{
-    match sizes(rung_limit, ration, stations, ranked, candidates) {
-        Ok(_) => (rung_limit, ration),
-        Err(_) => (0, 1),
-    }
-}
-
-impl<'t, C: Cost> Core<'t, C> {
-    // A ladder without rungs over these tables.
-    pub fn open(
-        limits: Limits,
-        rung_limit: usize,
-        ration: usize,
-        stations: &'t mut [Station],
-        ranked: &'t mut [Ranked<C>],
-        candidates: &'t mut [Candidate<C>],
-    ) -> Core<'t, C>
-        ensures bounds { Bounds result }
-        ensures sound { Sound C.Cost.rules result }
-        ensures opens { book result ≡ opened limits rung_limit ration (length stations.old) (length ranked.old) (length candidates.old) }
+impl Setup {
+    // What a resolver over these tables works with: the setup itself, or a rung limit of 0 and a ration of 1 where the sizes call refuses it.
+    fn fitted<C>(self, tables: &LentTables<C>) -> Setup
+        ensures roomy { Roomy result tables.now }
+        ensures opens { opened_over self tables.now ≡ new_book result.limits result.rung_limit result.ration }
     {
-        let (rung_limit, ration) = fitted(
-            rung_limit,
-            ration,
-            stations.len(),
-            ranked.len(),
-            candidates.len(),
-        );
-        Core {
-            stations,
-            ranked,
-            candidates,
-            extents: [Extent {
-                poses: 0,
-                ranked: 0,
-            }; 128],
-            limits,
-            rung_limit,
-            ration,
-            rungs: 0,
-            closed: false,
-            taken: 0,
-            counts: [0; 16],
-            recent: None,
+        match sizes(
+            self.rung_limit,
+            self.ration,
+            tables.stations.len(),
+            tables.ranked.len(),
+            tables.candidates.len(),
+        ) {
+            Ok(()) => self,
+            Err(_) => Setup {
+                rung_limit: 0,
+                ration: 1,
+                ..self
+            },
         }
     }
 }
@@ -98,20 +78,29 @@ impl<'t, C: Cost> Core<'t, C> {
 impl<'t, C: Cost> Resolver<'t, C> {
     // A new resolver over tables that are its own from now on: no rung, open, nothing taken. Numbers and tables that the sizes call refuses
     // give one that allows no rung. Whatever calls are then made on it, in any order, keep what is promised of a run from that book.
-    pub fn open(
-        limits: Limits,
-        rung_limit: usize,
-        ration: usize,
-        stations: &'t mut [Station],
-        ranked: &'t mut [Ranked<C>],
-        candidates: &'t mut [Candidate<C>],
-    ) -> Resolver<'t, C>
+    pub fn open(setup: Setup, tables: LentTables<'t, C>) -> Resolver<'t, C>
         ensures sound { Sound C.Cost.rules result.core }
-        ensures opens { book result.core ≡ opened limits rung_limit ration (length stations.old) (length ranked.old) (length candidates.old) }
-        ensures promise { KeepsPromise C.Cost.rules (opened limits rung_limit ration (length stations.old) (length ranked.old) (length candidates.old)) result.core }
+        ensures opens { book result.core ≡ opened_over setup tables.entry }
+        ensures promise { KeepsPromise C.Cost.rules (opened_over setup tables.entry) result.core }
     {
-        Resolver {
-            core: Core::open(limits, rung_limit, ration, stations, ranked, candidates),
-        }
+        let setup = setup.fitted(&tables);
+        let core = Core {
+            stations: tables.stations,
+            ranked: tables.ranked,
+            candidates: tables.candidates,
+            extents: [Extent {
+                poses: 0,
+                ranked: 0,
+            }; 128],
+            limits: setup.limits,
+            rung_limit: setup.rung_limit,
+            ration: setup.ration,
+            rungs: 0,
+            closed: false,
+            taken: 0,
+            counts: [0; 16],
+            recent: None,
+        };
+        Resolver { core }
     }
 }

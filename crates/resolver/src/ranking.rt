@@ -1,6 +1,6 @@
 // Finding the next rank at a pose, and what it needs on the rungs before.
 ghost use Rattle.std.specs.Prelude.{◌≡◌, ◌+◌, ◌<◌, ◌≤◌, true, length, is_some};
-ghost use Rattle.resolver.specs.Bounds.{Bounds, Same};
+ghost use Rattle.resolver.specs.Kept.{Same};
 ghost use Rattle.resolver.specs.Finding.{FindsNext};
 ghost use Rattle.resolver.specs.Effects.{AdvancesPose, AppendsTrack, Descends, DrawsLeast, EntersSuccessor, EntersTrack, ExtendsTrack, IsFollowed, IsNeeded, IsPending, LetsWait, LinksLast, RanksTrack};
 
@@ -13,8 +13,7 @@ use ladder::rules::Cost;
 impl<'t, C: Cost> Core<'t, C> {
     // Lets x wait at pose v of rung r.
     fn wait(&mut self, r: usize, v: PoseNumber, x: Candidate<C>)
-        requires { (Bounds self.old) × (r < self.old.rung_limit) }
-        ensures bounds { Bounds self.new }
+        requires { r < self.old.rung_limit }
         ensures same { Same self.old self.new }
         ensures effect { LetsWait C.Cost.rules self.old self.new r v.0 x }
     {
@@ -28,7 +27,8 @@ impl<'t, C: Cost> Core<'t, C> {
 
     // The candidate at pose v of rung r that extends the track at a place of the rung before; none where the move is not admissible.
     fn candidate(&self, r: usize, v: PoseNumber, at: Place) -> Option<Candidate<C>>
-        requires { (Bounds self.now) × ((r < self.now.rung_limit) × (0 < r)) }
+        requires rung { r < self.now.rung_limit }
+        requires above { 0 < r }
         ensures { ExtendsTrack C.Cost.rules self.now r v.0 at.0 result }
     {
         let front = self.track(r - 1, at);
@@ -39,8 +39,8 @@ impl<'t, C: Cost> Core<'t, C> {
 
     // Enters the track at a place of the rung before as a candidate at pose v of rung r, where the move is admissible.
     pub(crate) fn enter(&mut self, r: usize, v: PoseNumber, at: Place)
-        requires { (Bounds self.old) × ((r < self.old.rung_limit) × (0 < r)) }
-        ensures bounds { Bounds self.new }
+        requires rung { r < self.old.rung_limit }
+        requires above { 0 < r }
         ensures same { Same self.old self.new }
         ensures effect { EntersTrack C.Cost.rules self.old self.new r v.0 at.0 }
     {
@@ -52,8 +52,7 @@ impl<'t, C: Cost> Core<'t, C> {
 
     // Links the last found rank at a pose of rung r, whose station is s, to the place of the next.
     fn link(&mut self, r: usize, s: Station, next: Place)
-        requires { (Bounds self.old) × (r < self.old.rung_limit) }
-        ensures bounds { Bounds self.new }
+        requires { r < self.old.rung_limit }
         ensures same { Same self.old self.new }
         ensures effect { LinksLast C.Cost.rules self.old self.new r s next.0 }
     {
@@ -67,15 +66,13 @@ impl<'t, C: Cost> Core<'t, C> {
 
     // Writes the track that candidate x stands for as rank n at pose v of rung r; answers where it lies.
     fn rank(&mut self, r: usize, v: PoseNumber, n: u16, x: Candidate<C>) -> Place
-        requires { (Bounds self.old) × (r < self.old.rung_limit) }
-        ensures bounds { Bounds self.new }
+        requires { r < self.old.rung_limit }
         ensures same { Same self.old self.new }
         ensures effect { RanksTrack C.Cost.rules self.old self.new r v.0 n x result.0 }
     {
-        let mut extent = self.extents[r];
+        let extent = &mut self.extents[r];
         let at = Place(extent.ranked);
         extent.ranked = extent.ranked.saturating_add(1);
-        self.extents[r] = extent;
         let track = Ranked {
             cost: x.whole,
             pose: v,
@@ -90,27 +87,24 @@ impl<'t, C: Cost> Core<'t, C> {
 
     // Appends the track that candidate x stands for as the next rank at pose v of rung r, whose station is s.
     pub(crate) fn append(&mut self, r: usize, v: PoseNumber, s: Station, x: Candidate<C>)
-        requires { (Bounds self.old) × (r < self.old.rung_limit) }
-        ensures bounds { Bounds self.new }
+        requires { r < self.old.rung_limit }
         ensures same { Same self.old self.new }
         ensures effect { AppendsTrack C.Cost.rules self.old self.new r v.0 s x }
     {
         let at = self.rank(r, v, s.found, x);
         self.link(r, s, at);
         let grown = Station {
-            pose: s.pose,
-            waiting: s.waiting,
             found: s.found.saturating_add(1),
             last: at,
             pending: r > 0,
+            ..s
         };
         self.put_station(r, v, grown);
     }
 
     // Draws the least candidate of pose v of rung r as its next rank; where none waits the pose has no further rank.
     pub(crate) fn draw(&mut self, r: usize, v: PoseNumber)
-        requires { (Bounds self.old) × (r < self.old.rung_limit) }
-        ensures bounds { Bounds self.new }
+        requires { r < self.old.rung_limit }
         ensures same { Same self.old self.new }
         ensures effect { DrawsLeast C.Cost.rules self.old self.new r v.0 }
     {
@@ -127,7 +121,7 @@ impl<'t, C: Cost> Core<'t, C> {
 
     // The last rank at pose v of rung r, where the successor of its front has yet to be entered.
     fn pending(&self, r: usize, v: PoseNumber) -> Option<Ranked<C>>
-        requires { (Bounds self.now) × (r < self.now.rung_limit) }
+        requires { r < self.now.rung_limit }
         ensures above { is_some result ≡ true → 0 < r }
         ensures value { IsPending C.Cost.rules self.now r v.0 result }
     {
@@ -143,7 +137,7 @@ impl<'t, C: Cost> Core<'t, C> {
 
     // Whether the track after the one that a back-pointer into rung p means is found.
     fn followed(&self, p: usize, back: Back) -> bool
-        requires { (Bounds self.now) × (p < self.now.rung_limit) }
+        requires { p < self.now.rung_limit }
         ensures { IsFollowed C.Cost.rules self.now p back result }
     {
         back.rank.0.saturating_add(1) < self.station(p, back.pose).found
@@ -151,8 +145,8 @@ impl<'t, C: Cost> Core<'t, C> {
 
     // Enters the successor of the front of e, the last rank at pose v of rung r, if it is found.
     fn enter_successor(&mut self, r: usize, v: PoseNumber, e: Ranked<C>)
-        requires { (Bounds self.old) × ((r < self.old.rung_limit) × (0 < r)) }
-        ensures bounds { Bounds self.new }
+        requires rung { r < self.old.rung_limit }
+        requires above { 0 < r }
         ensures same { Same self.old self.new }
         ensures effect { EntersSuccessor C.Cost.rules self.old self.new r v.0 e }
     {
@@ -165,8 +159,7 @@ impl<'t, C: Cost> Core<'t, C> {
 
     // Finds the next rank at pose v of rung r, where the track that its pending successor extends is found or does not exist.
     fn advance(&mut self, r: usize, v: PoseNumber)
-        requires { (Bounds self.old) × (r < self.old.rung_limit) }
-        ensures bounds { Bounds self.new }
+        requires { r < self.old.rung_limit }
         ensures same { Same self.old self.new }
         ensures effect { AdvancesPose C.Cost.rules self.old self.new r v.0 }
     {
@@ -179,12 +172,10 @@ impl<'t, C: Cost> Core<'t, C> {
 
     // The pose of the rung before whose next rank pose v of rung r waits for, if that rank is not found.
     fn needed(&self, r: usize, v: PoseNumber) -> Option<PoseNumber>
-        requires { (Bounds self.now) × (r < self.now.rung_limit) }
+        requires { r < self.now.rung_limit }
         ensures { IsNeeded C.Cost.rules self.now r v.0 result }
     {
-        let Some(e) = self.pending(r, v) else {
-            return None;
-        };
+        let e = self.pending(r, v)?;
         if self.followed(r - 1, e.back) {
             return None;
         }
@@ -193,26 +184,24 @@ impl<'t, C: Cost> Core<'t, C> {
 
     // Goes down from pose v of rung r to the rung where the search can begin; `path` has the pose to advance on each rung from there to r.
     fn descend(&self, r: usize, v: PoseNumber, path: &mut [PoseNumber]) -> usize
-        requires { (Bounds self.now) × ((r < self.now.rung_limit) × (r < length path.old)) }
+        requires rung { r < self.now.rung_limit }
+        requires path { r < length path.old }
         ensures low { result ≤ r }
         ensures path { Descends C.Cost.rules self.now r v path.new result }
     {
-        let mut at = r;
-        path[at] = v;
-        while at > 0 {
-            let Some(u) = self.needed(at, path[at]) else {
-                return at;
+        path[r] = v;
+        for p in (0..r).rev() {
+            let Some(u) = self.needed(p + 1, path[p + 1]) else {
+                return p + 1;
             };
-            at -= 1;
-            path[at] = u;
+            path[p] = u;
         }
-        at
+        0
     }
 
     // Finds the next rank at pose v of rung r, and before it what it needs on the rungs before.
     pub(crate) fn find_next(&mut self, r: usize, v: PoseNumber)
-        requires { (Bounds self.old) × (r < self.old.rung_limit) }
-        ensures bounds { Bounds self.new }
+        requires { r < self.old.rung_limit }
         ensures same { Same self.old self.new }
         ensures effect { FindsNext C.Cost.rules self.old self.new r v.0 }
     {

@@ -1,8 +1,5 @@
 // The resolver's tables: where a pose, a track and a rung's candidates lie, and what is written there.
 ghost use Rattle.std.specs.Prelude.{◌≡◌, ℕ, ◌+◌, ◌*◌, ◌<◌, ◌≤◌, length, slice_index_or};
-ghost use Rattle.resolver.specs.Bounds.{Bounds, Same};
-ghost use Rattle.resolver.specs.Effects.{PutsStation, PutsTrack};
-ghost use Rattle.resolver.specs.Tables.{station_at, track_at};
 
 use enumeration::{Candidate, Extent, Place, Ranked, Station};
 use ladder::poses::{Limits, PoseNumber};
@@ -23,21 +20,26 @@ pub struct Core<'t, C> {
     pub taken: usize,
     pub counts: [u16; 16],
     pub recent: Option<PoseNumber>,
-}
-
-// An element of a table of any records.
-fn read<T: Copy>(xs: &[T], i: usize) -> T
-    requires { i < length xs.now }
-    ensures { (d : T) → slice_index_or xs.now i d ≡ result }
-{
-    xs[i]
+    ghost shoulder: { limits.shoulder ≤ 65535 },
+    ghost elbow: { limits.elbow ≤ 65535 },
+    ghost limited: { rung_limit ≤ 128 },
+    ghost rationed: { ration ≤ 4096 },
+    ghost held: { rungs ≤ rung_limit },
+    ghost drawn: { taken ≤ ration },
+    ghost stations_fit: { 16 * rung_limit ≤ length stations.now },
+    ghost ranked_fit: { (16 + ration) * rung_limit ≤ length ranked.now },
+    ghost candidates_fit: { 256 * rung_limit ≤ length candidates.now },
 }
 
 // The numbers that the tables hold are brought into range before they are used as places, so that no access leaves its table whatever they are.
 impl<'t, C: Cost> Core<'t, C> {
+    ghost use Rattle.resolver.specs.Kept.{Same};
+    ghost use Rattle.resolver.specs.Effects.{PutsStation, PutsTrack};
+    ghost use Rattle.resolver.specs.Tables.{station_at, track_at};
+
     // Where pose v of rung r stands.
     pub(crate) fn station_place(&self, r: usize, v: PoseNumber) -> usize
-        requires { (Bounds self.now) × (r < self.now.rung_limit) }
+        requires { r < self.now.rung_limit }
         ensures low { 16 * r ≤ result }
         ensures high { result < 16 * r + 16 }
         ensures is { v.0 < 16 → result ≡ 16 * r + v.0 }
@@ -47,7 +49,7 @@ impl<'t, C: Cost> Core<'t, C> {
 
     // Where a place of rung r's ranked block lies.
     pub(crate) fn ranked_place(&self, r: usize, at: Place) -> usize
-        requires { (Bounds self.now) × (r < self.now.rung_limit) }
+        requires { r < self.now.rung_limit }
         ensures within { result < length self.now.ranked.now }
         ensures is { at.0 < 16 + self.now.ration → result ≡ (16 + self.now.ration) * r + at.0 }
     {
@@ -57,41 +59,35 @@ impl<'t, C: Cost> Core<'t, C> {
 
     // Pose v of rung r.
     pub(crate) fn station(&self, r: usize, v: PoseNumber) -> Station
-        requires { (Bounds self.now) × (r < self.now.rung_limit) }
+        requires { r < self.now.rung_limit }
         ensures { v.0 < 16 → result ≡ station_at self.now r v.0 }
     {
-        let i = self.station_place(r, v);
-        read(self.stations, i)
+        self.stations[self.station_place(r, v)]
     }
 
     // The track at a place of rung r's ranked block.
     pub(crate) fn track(&self, r: usize, at: Place) -> Ranked<C>
-        requires { (Bounds self.now) × (r < self.now.rung_limit) }
+        requires { r < self.now.rung_limit }
         ensures { at.0 < 16 + self.now.ration → result ≡ track_at self.now C.Cost.rules r at.0 }
     {
-        let i = self.ranked_place(r, at);
-        read(self.ranked, i)
+        self.ranked[self.ranked_place(r, at)]
     }
 
     // Writes pose v of rung r.
     pub(crate) fn put_station(&mut self, r: usize, v: PoseNumber, s: Station)
-        requires { (Bounds self.old) × (r < self.old.rung_limit) }
-        ensures bounds { Bounds self.new }
+        requires { r < self.old.rung_limit }
         ensures same { Same self.old self.new }
         ensures effect { PutsStation C.Cost.rules self.old self.new r v.0 s }
     {
-        let i = self.station_place(r, v);
-        self.stations[i] = s;
+        self.stations[self.station_place(r, v)] = s;
     }
 
     // Writes the track at a place of rung r's ranked block.
     pub(crate) fn put_track(&mut self, r: usize, at: Place, e: Ranked<C>)
-        requires { (Bounds self.old) × (r < self.old.rung_limit) }
-        ensures bounds { Bounds self.new }
+        requires { r < self.old.rung_limit }
         ensures same { Same self.old self.new }
         ensures effect { PutsTrack C.Cost.rules self.old self.new r at.0 e }
     {
-        let i = self.ranked_place(r, at);
-        self.ranked[i] = e;
+        self.ranked[self.ranked_place(r, at)] = e;
     }
 }

@@ -1,7 +1,7 @@
 // Taking the next track of the list.
 ghost use Rattle.std.specs.Prelude.{◌≡◌, ◌+◌, ◌<◌, ◌≤◌, length, MatchOption, slice_index};
-ghost use Rattle.resolver.specs.Bounds.{Bounds, Same, settled};
-ghost use Rattle.resolver.specs.Sound.{Betters, IsBest, WritesSteps, Renews, SetupKept, Takes, counted, taken_at};
+ghost use Rattle.resolver.specs.Kept.{Same, settled};
+ghost use Rattle.resolver.specs.Sound.{Betters, IsBest, WritesSteps, Renews, SetupKept, Takes, Counted, taken_at};
 ghost use Rattle.resolver.specs.Tables.{station_at, track_at, width};
 
 use crate::answers::Taken;
@@ -20,7 +20,7 @@ impl<'t, C: Cost> Core<'t, C> {
 
     // The cost of the track found last at pose v of rung r.
     fn last_cost(&self, r: usize, v: PoseNumber) -> C
-        requires { (Bounds self.now) × (r < self.now.rung_limit) }
+        requires { r < self.now.rung_limit }
         ensures { v.0 < 16 → (station_at self.now r v.0).last.0 < width self.now → result ≡ (track_at self.now C.Cost.rules r (station_at self.now r v.0).last.0).cost }
     {
         let s = self.station(r, v);
@@ -29,7 +29,7 @@ impl<'t, C: Cost> Core<'t, C> {
 
     // The better of the best so far and the first untaken track at pose v of rung r; of two that cost the same, the best so far.
     fn better(&self, r: usize, best: Option<PoseNumber>, v: PoseNumber) -> Option<PoseNumber>
-        requires { (Bounds self.now) × (r < self.now.rung_limit) }
+        requires { r < self.now.rung_limit }
         ensures { Betters C.Cost.rules self.now r best v.0 result }
     {
         let s = self.station(r, v);
@@ -49,10 +49,10 @@ impl<'t, C: Cost> Core<'t, C> {
 
     // The pose of rung r whose first untaken track is the next of the list.
     fn best(&self, r: usize) -> Option<PoseNumber>
-        requires { (Bounds self.now) × (r < self.now.rung_limit) }
+        requires { r < self.now.rung_limit }
         ensures { IsBest C.Cost.rules self.now r result }
     {
-        let mut best: Option<PoseNumber> = None;
+        let mut best = None;
         for v in 0..self.extents[r].poses {
             best = self.better(r, best, PoseNumber(v));
         }
@@ -61,7 +61,8 @@ impl<'t, C: Cost> Core<'t, C> {
 
     // Writes the steps of the track at a place of rung r.
     fn write(&self, r: usize, at: Place, out: &mut [Step])
-        requires { (Bounds self.now) × ((r < self.now.rung_limit) × (r < length out.old)) }
+        requires rung { r < self.now.rung_limit }
+        requires out { r < length out.old }
         ensures { WritesSteps C.Cost.rules self.now r at.0 out.old out.new }
     {
         let mut place = at;
@@ -78,26 +79,23 @@ impl<'t, C: Cost> Core<'t, C> {
 
     // Finds the next rank at the pose of rung r that was taken last.
     fn renew(&mut self, r: usize)
-        requires { (Bounds self.old) × (r < self.old.rung_limit) }
-        ensures bounds { Bounds self.new }
+        requires { r < self.old.rung_limit }
         ensures same { Same (settled self.old) self.new }
         ensures effect { Renews C.Cost.rules self.old self.new r }
     {
-        if let Some(v) = self.recent {
-            self.recent = None;
+        if let Some(v) = self.recent.take() {
             self.find_next(r, v);
         }
     }
 
     // Counts the first untaken track at pose v of the last rung as taken; answers its number in the list.
     fn count_taken(&mut self, v: PoseNumber) -> usize
-        requires { (Bounds self.old) × (self.old.taken < self.old.ration) }
-        ensures bounds { Bounds self.new }
+        requires { self.old.taken < self.old.ration }
         ensures kept { SetupKept self.old self.new }
         ensures number { result ≡ self.old.taken + 1 }
         ensures counts { self.new.taken ≡ self.old.taken + 1 }
         ensures wide { length self.old.counts ≡ 16 }
-        ensures effect { v.0 < 16 → taken_at self.old v.0 < 65535 → self.new ≡ counted self.old v }
+        ensures effect { v.0 < 16 → taken_at self.old v.0 < 65535 → Counted C.Cost.rules self.old self.new v }
     {
         let i = (v.0 as usize).min(15);
         self.counts[i] = self.counts[i].saturating_add(1);
@@ -108,20 +106,15 @@ impl<'t, C: Cost> Core<'t, C> {
 
     // Takes the next track of the list, and writes its steps; none where the list is at its end.
     pub(crate) fn take_next(&mut self, out: &mut [Step]) -> Option<Taken<C>>
-        requires { (Bounds self.old) × ((self.old.taken < self.old.ration) × (self.old.rungs ≤ length out.old)) }
-        ensures bounds { Bounds self.new }
+        requires left { self.old.taken < self.old.ration }
+        requires out { self.old.rungs ≤ length out.old }
         ensures kept { SetupKept self.old self.new }
         ensures counts { MatchOption result (self.new.taken ≡ self.old.taken) (λ _. self.new.taken ≡ self.old.taken + 1) }
         ensures effect { Takes C.Cost.rules self.old self.new out.old out.new result }
     {
-        if self.rungs == 0 {
-            return None;
-        }
-        let r = self.rungs - 1;
+        let r = self.rungs.checked_sub(1)?;
         self.renew(r);
-        let Some(v) = self.best(r) else {
-            return None;
-        };
+        let v = self.best(r)?;
         let at = self.station(r, v).last;
         let cost = self.last_cost(r, v);
         self.write(r, at, out);

@@ -9,7 +9,6 @@ pub returns-in_default : goal.returns-in_default
 returns-in_default g c =
     let k = c.args.self.now in
     record {
-      bounds = c.requires.0;
       same = search rules;
       effect = λ few readable steady.
           advanced_none g.C.Cost.rules k.limits (width k) (tables_of g.C.Cost.rules k) c.args.r c.args.v.0 (sym c.in_default.is ∙ c.pending.ensures.value few readable);
@@ -28,7 +27,6 @@ returns g c =
     let e = c.in-Some.e in
     let w = width k in
     record {
-      bounds = c.draw.ensures.bounds;
       same = search rules;
       effect = λ few readable ready.
           let p = r - 1 in

@@ -21,7 +21,6 @@ returns g c =
     let wa : width a ≡ width k = ap (λ z. 16 + z) c.rank-at.ensures.same.ration in
     let wb : width b ≡ width k = ap (λ z. 16 + z) c.link.ensures.same.ration ∙ wa in
     record {
-      bounds = c.put_station.ensures.bounds;
       same = search rules;
       effect = λ few fits.
           let lt : i < width k = omega (arith, is, fits.free) in

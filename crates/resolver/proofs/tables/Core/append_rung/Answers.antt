@@ -6,7 +6,7 @@ use Rattle.resolver.proofs.Adding.{settles_more, adds_rung}
 use Rattle.resolver.proofs.tables.Core.append_rung.Goals as goal
 
 pub loop-v-init : goal.loop-v-init
-loop-v-init g c = (c.place.ensures.bounds, search rules, λ h. (h, same_self _ _))
+loop-v-init g c = (search rules, λ h. (h, same_self _ _))
 
 pub loop-v-preserved : goal.loop-v-preserved
 loop-v-preserved g c =
@@ -15,9 +15,8 @@ loop-v-preserved g c =
     let inv = c.loop-v.invariant in
     let v = c.loop-v.v in
     let inside = subst (λ z. v < z) (sym c.place.ensures.effect.size) c.loop-v-test.true in (
-      c.settle.ensures.bounds,
       search rules,
-      λ h. settles_more rules g.met.C.Cost.lawful k c.loop-v.self c.settle.new.self inv.0 inv.1 c.args.self.now.rungs v (omega (arith, inv.1.rung_limit, c.place.ensures.same.rung_limit, c.requires)) inside c.settle.ensures.effect (inv.2 h),
+      λ h. settles_more rules g.met.C.Cost.lawful k c.loop-v.self c.settle.new.self inv.0 c.args.self.now.rungs v (omega (arith, inv.0.rung_limit, c.place.ensures.same.rung_limit, c.requires)) inside c.settle.ensures.effect (inv.1 h),
     )
 
 pub returns : goal.returns
@@ -29,22 +28,9 @@ returns g c =
     let inv = c.loop-v.invariant in
     let all : c.loop-v.v ≡ length ps = omega (arith, c.loop-v-test.false, c.loop-v.auto.v-end) in
     record {
-      bounds =
-          let b = inv.0 in
-          record {
-            shoulder = b.shoulder;
-            elbow = b.elbow;
-            limited = b.limited;
-            rationed = b.rationed;
-            held = omega (arith, inv.1.rung_limit, c.place.ensures.same.rung_limit, c.requires);
-            drawn = b.drawn;
-            stations = b.stations;
-            ranked = b.ranked;
-            candidates = b.candidates;
-          };
       count = search rules;
       grown = search rules;
-      effect = adds_rung rules k a c.loop-v.self c.place.ensures.same ps c.requires.1.1 c.place.ensures.effect (λ h.
-          let r = inv.2 h in
+      effect = adds_rung rules k a c.loop-v.self c.place.ensures.same ps c.requires.few c.place.ensures.effect (λ h.
+          let r = inv.1 h in
           (subst (λ z. Begun rules a.limits (tables_of rules c.loop-v.self) k.rungs z) all r.0, r.1));
     }

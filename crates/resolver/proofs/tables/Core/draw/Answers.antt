@@ -27,7 +27,6 @@ returns-in-Some g c =
     let e = c.in-Some.ensures in
     let s = c.station-s.result in
     record {
-      bounds = c.append.ensures.bounds;
       same = search rules;
       effect = λ few all more.
           let S = station_at k r v in
@@ -59,7 +58,6 @@ returns-in-None g c =
     let e = c.in-None.ensures.inside in
     let s = c.station-s.result in
     record {
-      bounds = c.put_station.ensures.bounds;
       same = search rules;
       effect = λ few all more.
           let S = station_at k r v in

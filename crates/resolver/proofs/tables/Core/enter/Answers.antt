@@ -10,7 +10,6 @@ returns-in_default g c =
     let k = c.args.self.now in
     let t = tables_of rules k in
     record {
-      bounds = c.requires.0;
       same = search rules;
       effect = λ p above few room lt posed.
           entering rules t k.limits p c.args.v.0 c.args.at.0 (width k) t None (sym c.in_default.is ∙ c.candidate.ensures p above few lt posed) (unchanged (width k) t);
@@ -25,7 +24,6 @@ returns g c =
     let v = c.args.v.0 in
     let x = c.in-Some.x in
     record {
-      bounds = c.wait.ensures.bounds;
       same = c.wait.ensures.same;
       effect = λ p above few room lt posed.
           entering rules t k.limits p v c.args.at.0 (width k) m (Some x) (sym c.in-Some.is ∙ c.candidate.ensures p above few lt posed)

@@ -16,7 +16,6 @@ returns-then-not-followed g c =
     let e = c.args.e in
     let w = width k in
     record {
-      bounds = c.requires.0;
       same = search rules;
       effect = λ p above few pends readable steady.
           let q : c.args.r - 1 ≡ p = omega (arith, above) in
@@ -37,7 +36,6 @@ returns g c =
     let e = c.args.e in
     let w = width k in
     record {
-      bounds = c.enter.ensures.bounds;
       same = c.enter.ensures.same;
       effect = λ p above few pends readable steady.
           let q : c.args.r - 1 ≡ p = omega (arith, above) in

@@ -4,7 +4,6 @@ use Rattle.resolver.proofs.tables.Core.find_next.Goals as goal
 
 pub loop-i-init : goal.loop-i-init
 loop-i-init g c = (
-  c.requires.0,
   search rules,
   climb_starts g.C.Cost.rules g.met.C.Cost.lawful c.args.self.now c.args.r c.descend-low.new.path c.descend-low.result,
 )
@@ -15,9 +14,8 @@ loop-i-preserved g c =
     let path = c.descend-low.new.path in
     let low = c.descend-low.result in
     let i = c.loop-i.i in (
-      c.advance.ensures.bounds,
       search rules,
-      climb_goes_on g.C.Cost.rules g.met.C.Cost.lawful k c.loop-i.self c.advance.new.self c.args.r path low i c.loop-i.invariant.1 c.loop-i.auto.i (omega (arith, c.loop-i-test.true)) c.loop-i.invariant.2 c.advance.ensures.effect,
+      climb_goes_on g.C.Cost.rules g.met.C.Cost.lawful k c.loop-i.self c.advance.new.self c.args.r path low i c.loop-i.invariant.0 c.loop-i.auto.i (omega (arith, c.loop-i-test.true)) c.loop-i.invariant.1 c.advance.ensures.effect,
     )
 
 pub returns : goal.returns
@@ -30,7 +28,6 @@ returns g c =
     let low = c.descend-low.result in
     let past : c.loop-i.i ≡ suc r = omega (arith, c.loop-i-test.false, c.descend-low.ensures.low, c.loop-i.auto.i-end (omega (arith, c.descend-low.ensures.low))) in
     record {
-      bounds = c.loop-i.invariant.0;
-      same = c.loop-i.invariant.1;
-      effect = climb_ends rules laws k c.loop-i.self r c.args.v path low c.requires.0 c.descend-low.ensures.low c.descend-low.ensures.path (subst (λ i. Climbs rules laws k c.loop-i.self r path low i) past c.loop-i.invariant.2);
+      same = c.loop-i.invariant.0;
+      effect = climb_ends rules laws k c.loop-i.self r c.args.v path low c.descend-low.ensures.low c.descend-low.ensures.path (subst (λ i. Climbs rules laws k c.loop-i.self r path low i) past c.loop-i.invariant.1);
     }

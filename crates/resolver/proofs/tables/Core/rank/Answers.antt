@@ -10,10 +10,9 @@ returns g c =
     let r = c.args.r in
     let es = k.extents in
     let e : Extent = get_or es r no_extent in
-    let more : Extent = record { poses = e.poses; ranked = c.saturating_add.result } in
+    let more : Extent = record { poses = e.poses; ranked = c.saturating_add-extent.result } in
     let inside : r < length es = omega arith in
     record {
-      bounds = c.put_track.ensures.bounds;
       same = search rules;
       effect = (
         refl,
@@ -25,7 +24,7 @@ returns g c =
               slots = p.slots;
               tracks = p.tracks;
               used = λ q ne. p.used q ∙ ap (λ (x : Extent). x.ranked) (get_or-set_other es r q more no_extent ne);
-              more = p.used r ∙ ap (λ (x : Extent). x.ranked) (get_or-set_same es r more no_extent inside) ∙ omega (arith, c.saturating_add.ensures, h, c.requires.0.rationed);
+              more = p.used r ∙ ap (λ (x : Extent). x.ranked) (get_or-set_same es r more no_extent inside) ∙ omega (arith, c.saturating_add-extent.ensures, h, k.rationed);
               here = p.here;
             },
       );

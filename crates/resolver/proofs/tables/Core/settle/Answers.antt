@@ -9,9 +9,8 @@ returns-then-r-gt0 g c =
     let rules = g.C.Cost.rules in
     let all = c.enter_all.ensures in
     record {
-      bounds = c.draw.ensures.bounds;
       same = search rules;
-      effect = settles_above rules g.met.C.Cost.lawful c.args.self.now c.enter_all.new.self c.draw.new.self all.bounds all.same c.args.r c.args.v.0 (omega (arith, all.same.rung_limit, c.requires)) c.if-r-gt0.true all.effect c.draw.ensures.effect;
+      effect = settles_above rules g.met.C.Cost.lawful c.args.self.now c.enter_all.new.self c.draw.new.self all.same c.args.r c.args.v.0 (omega (arith, all.same.rung_limit, c.requires)) c.if-r-gt0.true all.effect c.draw.ensures.effect;
     }
 
 pub returns : goal.returns
@@ -22,7 +21,6 @@ returns g c =
     let v = c.args.v.0 in
     let begins = start_read rules v c.zero.result c.zero-2.result c.zero.ensures c.zero-2.ensures in
     record {
-      bounds = c.append.ensures.bounds;
       same = c.append.ensures.same;
-      effect = settles_first rules g.met.C.Cost.lawful k m c.requires.0 c.args.r v (omega (arith, c.if-r-gt0.false)) c.station-s.result c.station-s.ensures (subst (λ (x : Candidate g.row.C.Denot). AppendsTrack rules k m 0 v c.station-s.result x) begins c.append.ensures.effect);
+      effect = settles_first rules g.met.C.Cost.lawful k m c.args.r v (omega (arith, c.if-r-gt0.false)) c.station-s.result c.station-s.ensures (subst (λ (x : Candidate g.row.C.Denot). AppendsTrack rules k m 0 v c.station-s.result x) begins c.append.ensures.effect);
     }

@@ -20,7 +20,6 @@ returns g c =
     let n = c.enter_part-waiting.result in
     let e = c.enter_part-waiting.ensures in
     record {
-      bounds = c.put_station.ensures.bounds;
       same = search rules;
       effect = λ few room.
           let S = station_at k r v in

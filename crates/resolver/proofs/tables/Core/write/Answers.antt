@@ -4,6 +4,7 @@ use Rattle.enumeration.specs.declared.records.Ranked.{Ranked}
 use Rattle.enumeration.specs.declared.records.Station.{Station}
 use Rattle.enumeration.proofs.Reading.{read_onto, read_none, read_is, step_in}
 use Rattle.resolver.specs.Tables.{tables_of, station_at, track_at}
+use Rattle.resolver.proofs.Bounded.{bounded}
 use Rattle.resolver.proofs.Writing.{step_back, next_in_use}
 use Rattle.resolver.proofs.tables.Core.write.Goals as goal
 
@@ -33,7 +34,7 @@ loop-i-preserved g c = λ n h s room u.
     let step : ◌≡◌ {A = Step} (record { number = c.track-e.result.pose; pose = c.station.result.pose }) (step_in t (i - 1) p) =
     ap (λ (z : Station). record { number = c.track-e.result.pose; pose = z.pose }) at ∙ ap (λ (x : Ranked g.row.C.Denot). record { number = x.pose; pose = (station_at k (i - 1) x.pose.0).pose }) e in
     let front = ap (λ (x : Ranked g.row.C.Denot). x.front.0) e in (
-      next_in_use rules laws k.limits (c.requires.0.shoulder, c.requires.0.elbow) t n s i p c.track-e.result.front.0 (omega (arith, high, h)) in_use front,
+      next_in_use rules laws k.limits (bounded k) t n s i p c.track-e.result.front.0 (omega (arith, high, h)) in_use front,
       step_back t i p c.track-e.result.front.0 c.loop-i.out _ some step front ∙ old.1,
     )
 
@@ -45,4 +46,4 @@ returns g c = λ n h s room u.
     let old = c.loop-i.invariant n h s room u in
     let z : c.loop-i.i ≡ 0 = omega (arith, c.loop-i-test.false) in
     sym (read_none t c.loop-i.place.0 c.loop-i.out) ∙ ap (λ x. read_onto t x c.loop-i.place.0 c.loop-i.out) (sym z) ∙ old.1
-    ∙ read_is rules g.met.C.Cost.lawful k.limits (c.requires.0.shoulder, c.requires.0.elbow) t n s c.args.r c.args.at.0 c.args.out.now h u (omega (arith, c.requires.1.1))
+    ∙ read_is rules g.met.C.Cost.lawful k.limits (bounded k) t n s c.args.r c.args.at.0 c.args.out.now h u (omega (arith, c.requires.out))
