@@ -1,5 +1,5 @@
 // The directions that a link can point in, 64 to a turn.
-ghost use Rattle.std.specs.Prelude.{◌≡◌, ◌+◌, ◌^◌, ◌<◌};
+ghost use Rattle.std.specs.Prelude.{◌≡◌};
 ghost use Rattle.sources.specs.Directions.{sine, cosine};
 
 // 10,000 times the sine of each direction.
@@ -11,17 +11,23 @@ const SINES: [i32; 64] = [
     -4714, -3827, -2903, -1951, -980,
 ];
 
-// 10,000 times the sine of a direction, of any turn.
-pub fn sine_of(direction: usize) -> i32
+// The table's entry for a direction of any turn.
+fn entry(direction: usize) -> i32
     ensures { result ≡ sine direction }
 {
     SINES[direction % 64]
 }
 
+// 10,000 times the sine of a direction.
+pub fn sine_of(direction: u16) -> i32
+    ensures { result ≡ sine direction }
+{
+    entry(direction as usize)
+}
+
 // 10,000 times its cosine: the sine a quarter turn on.
-pub fn cosine_of(direction: usize) -> i32
-    requires { direction + 16 < 2 ^ 64 }
+pub fn cosine_of(direction: u16) -> i32
     ensures { result ≡ cosine direction }
 {
-    sine_of(direction + 16)
+    entry(direction as usize + 16)
 }

@@ -25,8 +25,8 @@ fn is_near(arm: Arm, first: i32, second: i32, x: i16) -> bool
 pub fn reaches(arm: Arm, at: Position, s: u8, e: u8) -> bool
     ensures { result ≡ reaching_pose arm at s e }
 {
-    let first = s as usize;
-    let second = first + e as usize;
+    let first = s as u16;
+    let second = first + e as u16;
     is_near(arm, cosine_of(first), cosine_of(second), at.x)
         && is_near(arm, sine_of(first), sine_of(second), at.y)
 }

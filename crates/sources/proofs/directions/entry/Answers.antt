@@ -4,7 +4,7 @@ use Rattle.std.specs.List.{range_with_len}
 use Rattle.std.proofs.lemmas.List.FromFn.{get_or-map-range_with_len}
 use Rattle.std.proofs.lemmas.Nat.{mod_below}
 use Rattle.sources.specs.Directions.{sine}
-use Rattle.sources.proofs.directions.sine_of.Goals as goal
+use Rattle.sources.proofs.directions.entry.Goals as goal
 
 -- the table has the sines of the first turn, and whole turns make no difference
 from_table : (n : ℤ) (d : ℕ) → n ≡ slice_index_or (map sine (range_with_len 0 64)) (d % 64) (pos 0) → n ≡ sine d
