@@ -158,23 +158,6 @@ fits_from : {A : Type 0} (b : Bool) (P : A → Type 0) (o : Option A) → is_som
 fits_from b P None e f = sym e
 fits_from b P (Some a) e f = (sym e, f)
 
--- a test that passes at both truth values, and the values that it tells
-abbrev either : (Bool → Bool) → Bool
-either t = t true && t false
-
-at_either : (t : Bool → Bool) → either t ≡ true → (b : Bool) → t b ≡ true
-at_either t e true = (and_parts (t true) (t false) e).0
-at_either t e false = (and_parts (t true) (t false) e).1
-
-abbrev alike : Bool → Bool → Bool
-alike true b = b
-alike false b = not b
-
-alike_true : (a b : Bool) → alike a b ≡ true → a ≡ b
-alike_true true b e = sym e
-alike_true false true e = e
-alike_true false false e = refl
-
 -- the map of a record has the bit of each value that is there, and no other
 record EntryTold (a b c d : Bool) (m : ℕ) : Type 0 where
   small : m < 256
@@ -185,24 +168,22 @@ record EntryTold (a b c d : Bool) (m : ℕ) : Type 0 where
   fourth : d ≡ stands m 8
 
 entry_told : (a b c d : Bool) → EntryTold a b c d (bit a 1 + bit b 2 + bit c 4 + bit d 8)
-entry_told a b c d =
-    let sum : Bool → Bool → Bool → Bool → ℕ = λ i j k l. bit i 1 + bit j 2 + bit k 4 + bit l 8 in
-    let test : Bool → Bool → Bool → Bool → Bool = λ i j k l. leb (sum i j k l) 255 && (lacks 240 (sum i j k l) && (alike i (stands (sum i j k l) 1) && (alike j (stands (sum i j k l) 2) && (alike k (stands (sum i j k l) 4) && alike l (stands (sum i j k l) 8))))) in
-    let all = at_either (λ l. test a b c l) (at_either (λ k. either (λ l. test a b k l)) (at_either (λ j. either (λ k. either (λ l. test a j k l))) (at_either (λ i. either (λ j. either (λ k. either (λ l. test i j k l)))) refl a) b) c) d in
-    let m = sum a b c d in
-    let t₀ = and_parts (leb m 255) _ all in
-    let t₁ = and_parts (lacks 240 m) _ t₀.1 in
-    let t₂ = and_parts (alike a (stands m 1)) _ t₁.1 in
-    let t₃ = and_parts (alike b (stands m 2)) _ t₂.1 in
-    let t₄ = and_parts (alike c (stands m 4)) _ t₃.1 in
-    record {
-      small = omega (arith, leb-true m 255 t₀.0);
-      clear = t₁.0;
-      first = alike_true a (stands m 1) t₂.0;
-      second = alike_true b (stands m 2) t₃.0;
-      third = alike_true c (stands m 4) t₄.0;
-      fourth = alike_true d (stands m 8) t₄.1;
-    }
+entry_told true true true true = record { small = omega arith; clear = refl; first = refl; second = refl; third = refl; fourth = refl }
+entry_told true true true false = record { small = omega arith; clear = refl; first = refl; second = refl; third = refl; fourth = refl }
+entry_told true true false true = record { small = omega arith; clear = refl; first = refl; second = refl; third = refl; fourth = refl }
+entry_told true true false false = record { small = omega arith; clear = refl; first = refl; second = refl; third = refl; fourth = refl }
+entry_told true false true true = record { small = omega arith; clear = refl; first = refl; second = refl; third = refl; fourth = refl }
+entry_told true false true false = record { small = omega arith; clear = refl; first = refl; second = refl; third = refl; fourth = refl }
+entry_told true false false true = record { small = omega arith; clear = refl; first = refl; second = refl; third = refl; fourth = refl }
+entry_told true false false false = record { small = omega arith; clear = refl; first = refl; second = refl; third = refl; fourth = refl }
+entry_told false true true true = record { small = omega arith; clear = refl; first = refl; second = refl; third = refl; fourth = refl }
+entry_told false true true false = record { small = omega arith; clear = refl; first = refl; second = refl; third = refl; fourth = refl }
+entry_told false true false true = record { small = omega arith; clear = refl; first = refl; second = refl; third = refl; fourth = refl }
+entry_told false true false false = record { small = omega arith; clear = refl; first = refl; second = refl; third = refl; fourth = refl }
+entry_told false false true true = record { small = omega arith; clear = refl; first = refl; second = refl; third = refl; fourth = refl }
+entry_told false false true false = record { small = omega arith; clear = refl; first = refl; second = refl; third = refl; fourth = refl }
+entry_told false false false true = record { small = omega arith; clear = refl; first = refl; second = refl; third = refl; fourth = refl }
+entry_told false false false false = record { small = omega arith; clear = refl; first = refl; second = refl; third = refl; fourth = refl }
 
 record HeadTold (a b c : Bool) (m : ℕ) : Type 0 where
   small : m < 256
@@ -212,22 +193,14 @@ record HeadTold (a b c : Bool) (m : ℕ) : Type 0 where
   third : c ≡ stands m 4
 
 head_told : (a b c : Bool) → HeadTold a b c (bit a 1 + bit b 2 + bit c 4)
-head_told a b c =
-    let sum : Bool → Bool → Bool → ℕ = λ i j k. bit i 1 + bit j 2 + bit k 4 in
-    let test : Bool → Bool → Bool → Bool = λ i j k. leb (sum i j k) 255 && (lacks 248 (sum i j k) && (alike i (stands (sum i j k) 1) && (alike j (stands (sum i j k) 2) && alike k (stands (sum i j k) 4)))) in
-    let all = at_either (λ k. test a b k) (at_either (λ j. either (λ k. test a j k)) (at_either (λ i. either (λ j. either (λ k. test i j k))) refl a) b) c in
-    let m = sum a b c in
-    let t₀ = and_parts (leb m 255) _ all in
-    let t₁ = and_parts (lacks 248 m) _ t₀.1 in
-    let t₂ = and_parts (alike a (stands m 1)) _ t₁.1 in
-    let t₃ = and_parts (alike b (stands m 2)) _ t₂.1 in
-    record {
-      small = omega (arith, leb-true m 255 t₀.0);
-      clear = t₁.0;
-      first = alike_true a (stands m 1) t₂.0;
-      second = alike_true b (stands m 2) t₃.0;
-      third = alike_true c (stands m 4) t₃.1;
-    }
+head_told true true true = record { small = omega arith; clear = refl; first = refl; second = refl; third = refl }
+head_told true true false = record { small = omega arith; clear = refl; first = refl; second = refl; third = refl }
+head_told true false true = record { small = omega arith; clear = refl; first = refl; second = refl; third = refl }
+head_told true false false = record { small = omega arith; clear = refl; first = refl; second = refl; third = refl }
+head_told false true true = record { small = omega arith; clear = refl; first = refl; second = refl; third = refl }
+head_told false true false = record { small = omega arith; clear = refl; first = refl; second = refl; third = refl }
+head_told false false true = record { small = omega arith; clear = refl; first = refl; second = refl; third = refl }
+head_told false false false = record { small = omega arith; clear = refl; first = refl; second = refl; third = refl }
 
 -- a record
 abbrev from_entry : Entry → Option ℤ × (Option ℤ × (Option (List Pose) × Option (List ℕ)))

@@ -26,7 +26,7 @@ accept s bs j (got c q) e v =
       said = ap accepted (sym e);
       values = cc;
     }
-accept s bs j (fault n k) e v = let z : ◌≡◌ {A = ℕ} 0 1 = cc in absurd (omega arith)
+accept s bs j (fault n k) e v = cc
 
 refuse : (s : List ℕ) → Bytes s → (f : Fault) → file_out s ≡ fault f.question f.place → Refused s f
 refuse s bs f e = record {
