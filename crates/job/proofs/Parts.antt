@@ -1,6 +1,7 @@
 -- The letters, the maps, the header's fields and a record keep to the layout.
 use Rattle.std.proofs.Common.{◌≡◌, ℕ, zero, suc, ◌+◌, ◌*◌, ◌<◌, ◌≤◌, Bool, true, false, not, ◌&&◌, ◌||◌, eqb, leb, List, [], ◌∷◌, length, get_or, take, drop, ℤ, is_some, IfSome, Some, None, Option, sym, refl, ap, ◌∙◌, subst, ⊎_elim, add-zero, arith, w16, SFits}
 use Rattle.std.specs.List.{flat_map, AllByRecursion}
+use Rattle.std.proofs.lemmas.Bool.Decides.{nat_tests}
 use Rattle.std.proofs.lemmas.List.{get_or-drop}
 use Rattle.std.proofs.lemmas.List.Prefix.{at_reads, at_from_reads}
 use Rattle.std.proofs.lemmas.Bool.{leb-true, le-leb, eqb-true, eq-eqb, and_parts, and_from, or_cases, cases_lt, both_ways, not_from_true}
@@ -33,22 +34,15 @@ letters_tested = record {
       let d = at_drop s p 3 in
       cc (r, a, b, c, d);
   reads = λ s p bs h t.
-      let l = and_parts (leb (p + 4) (length s)) _ t in
-      let t = and_parts (eqb (get_or s p 0) 84) _ l.1 in
-      let u = and_parts (eqb (get_or s (p + 1) 0) 76) _ t.1 in
-      let v = and_parts (eqb (get_or s (p + 2) 0) 65) _ u.1 in
-      let le : p + 4 ≤ length s = leb-true (p + 4) (length s) l.0 in
-      (le, tt, at_from_reads 0 s tlad p le (λ i b. letter s p i b (eqb-true (get_or s p 0) 84 t.0) (eqb-true (get_or s (p + 1) 0) 76 u.0) (eqb-true (get_or s (p + 2) 0) 65 v.0) (eqb-true (get_or s (p + 3) 0) 68 v.1)));
+      let is : (p + 4 ≤ length s) × (get_or s p 0 ≡ 84) × (get_or s (p + 1) 0 ≡ 76) × (get_or s (p + 2) 0 ≡ 65) × (get_or s (p + 3) 0 ≡ 68) = grind (arith, nat_tests) in
+      (is.0, tt, at_from_reads 0 s tlad p is.0 (λ i b. letter s p i b is.1 is.2 is.3 is.4));
   says = λ s p a rest h f e.
-      let le : p + 4 ≤ length s = omega (arith, fits_in s tlad rest p h e) in
-      let t : get_or s p 0 ≡ 84 = rw add-zero at (at_reads 0 s tlad p rest e 0 (omega arith)) in (
-        and_from (leb (p + 4) (length s)) _ (le-leb (p + 4) (length s) le)
-            (and_from (eqb (get_or s p 0) 84) _ (eq-eqb (get_or s p 0) 84 t)
-            (and_from (eqb (get_or s (p + 1) 0) 76) _ (eq-eqb _ _ (at_reads 0 s tlad p rest e 1 (omega arith)))
-            (and_from (eqb (get_or s (p + 2) 0) 65) _ (eq-eqb _ _ (at_reads 0 s tlad p rest e 2 (omega arith)))
-            (eq-eqb _ _ (at_reads 0 s tlad p rest e 3 (omega arith)))))),
-        refl,
-      );
+      let le = fits_in s tlad rest p h e in
+      let t : get_or s p 0 ≡ 84 = rw add-zero at (at_reads 0 s tlad p rest e 0 (omega arith)) in
+      let u = at_reads 0 s tlad p rest e 1 (omega arith) in
+      let v = at_reads 0 s tlad p rest e 2 (omega arith) in
+      let w = at_reads 0 s tlad p rest e 3 (omega arith) in
+      (grind (arith, nat_tests), refl);
   some = (tt, tt);
 }
   where
@@ -91,10 +85,10 @@ ranged_lawful low high z = only_lawful Whole Range word_tested (between low high
 
 -- a number in a range, as a test and as two facts
 pub between_true : (low high n : ℕ) → between low high n ≡ true → (low ≤ n) × (n ≤ high)
-between_true low high n e = let t = and_parts (leb low n) (leb n high) e in (leb-true low n t.0, leb-true n high t.1)
+between_true low high n e = grind (arith, nat_tests)
 
 pub true_between : (low high n : ℕ) → low ≤ n → n ≤ high → between low high n ≡ true
-true_between low high n a b = and_from (leb low n) (leb n high) (le-leb low n a) (le-leb n high b)
+true_between low high n a b = grind (arith, nat_tests)
 
 -- a pose list after its count
 abbrev PosesFit : List Pose → Type 0
