@@ -20,18 +20,15 @@ use Rattle.job.proofs.Basics.{room, byte_tested, word_tested, signed_tested, par
 abbrev tlad : List ℕ
 tlad = 84 ∷ (76 ∷ (65 ∷ (68 ∷ [])))
 
-at_drop : (s : List ℕ) (p i : ℕ) → get_or (drop p s) i 0 ≡ get_or s (p + i) 0
-at_drop s p i = get_or-drop p s i 0
-
 letters_tested : Tested 4 (λ s p. tt {0}) (λ a. tlad) (λ a. Unit {0}) letters_at lettered
 letters_tested = record {
   size = λ a f. refl;
   same = λ s p h.
       let r = room s p 4 h in
-      let a : get_or (drop p s) 0 0 ≡ get_or s p 0 = at_drop s p 0 ∙ ap (λ k. get_or s k 0) (add-zero p) in
-      let b = at_drop s p 1 in
-      let c = at_drop s p 2 in
-      let d = at_drop s p 3 in
+      let a : get_or (drop p s) 0 0 ≡ get_or s p 0 = get_or-drop p s 0 0 ∙ ap (λ k. get_or s k 0) (add-zero p) in
+      let b = get_or-drop p s 1 0 in
+      let c = get_or-drop p s 2 0 in
+      let d = get_or-drop p s 3 0 in
       cc (r, a, b, c, d);
   reads = λ s p bs h t.
       let is : (p + 4 ≤ length s) × (get_or s p 0 ≡ 84) × (get_or s (p + 1) 0 ≡ 76) × (get_or s (p + 2) 0 ≡ 65) × (get_or s (p + 3) 0 ≡ 68) = grind (arith, nat_tests) in
@@ -57,12 +54,12 @@ letters_lawful : Lawful letters (λ a. the_letters ∷ []) (λ a. Unit {0})
 letters_lawful = tested_lawful Letters letters_tested
 
 byte_moved : (s : List ℕ) (p : ℕ) → byte_at (drop p s) 0 ≡ byte_at s p
-byte_moved s p = at_drop s p 0 ∙ ap (λ k. get_or s k 0) (add-zero p)
+byte_moved s p = get_or-drop p s 0 0 ∙ ap (λ k. get_or s k 0) (add-zero p)
 
 word_moved : (s : List ℕ) (p : ℕ) → word_at (drop p s) 0 ≡ word_at s p
 word_moved s p =
     let a = byte_moved s p in
-    let b : get_or (drop p s) (0 + 1) 0 ≡ get_or s (p + 1) 0 = at_drop s p 1 in
+    let b : get_or (drop p s) (0 + 1) 0 ≡ get_or s (p + 1) 0 = get_or-drop p s 1 0 in
     cc (a, b)
 
 map_lawful : (mask : ℕ) → lacks mask 0 ≡ true → Lawful (only Map (lacks mask) byte) (λ m. a_map mask m ∷ []) (λ m. (m < 256) × (lacks mask m ≡ true))
@@ -254,21 +251,8 @@ ArmFits a = (1 ≤ a.first) × (a.first ≤ 2000) × (1 ≤ a.second) × (a.seco
 
 arm_lawful : Lawful arm (λ a. a_number 1 2000 a.first ∷ (a_number 1 2000 a.second ∷ (a_number 0 2000 a.window ∷ []))) ArmFits
 arm_lawful = lawful_again arm _ ArmFits (λ s p. refl) (λ a w. refl)
-    (λ a w.
-    let x = between_true 1 2000 a.first w.0.0.1 in
-    let y = between_true 1 2000 a.second w.0.1.0.1 in
-    let z = between_true 0 2000 a.window w.0.1.1.1 in
-    (x.0, x.1, y.0, y.1, z.1))
-    (λ a w. (
-      (
-        (omega (arith, w.1), true_between 1 2000 a.first w.0 w.1),
-        (
-          (omega (arith, w.3), true_between 1 2000 a.second w.2 w.3),
-          (omega (arith, w.4), true_between 0 2000 a.window (omega arith) w.4),
-        ),
-      ),
-      refl,
-    ))
+    (λ a w. grind (arith, nat_tests))
+    (λ a w. grind (arith, nat_tests))
     (via_lawful to_arm (λ a. (a.first, (a.second, a.window))) (λ c. refl) (pair_lawful (ranged_lawful 1 2000 refl) (pair_lawful (ranged_lawful 1 2000 refl) (ranged_lawful 0 2000 refl))))
 
 -- the ration
@@ -277,8 +261,8 @@ RationFits k = (1 ≤ k) × (k ≤ 4096)
 
 ration_lawful : Lawful ration (λ k. a_number 1 4096 k ∷ []) RationFits
 ration_lawful = lawful_again ration _ RationFits (λ s p. refl) (λ k w. refl)
-    (λ k w. between_true 1 4096 k w.1)
-    (λ k w. (omega (arith, w.1), true_between 1 4096 k w.0 w.1))
+    (λ k w. grind (arith, nat_tests))
+    (λ k w. grind (arith, nat_tests))
     (ranged_lawful 1 4096 refl)
 
 -- the header with the count of records
