@@ -1,5 +1,5 @@
 -- What the outcome of a reader says of its parts.
-use Rattle.std.proofs.Common.{◌≡◌, ℕ, Bool, true, false, cond, ◌⊎◌, sym, refl, ap, inl, inr, arith}
+use Rattle.std.proofs.Common.{◌≡◌, ℕ, Bool, true, false, cond, ◌⊎◌, sym, refl, ap, inl, inr}
 use Rattle.job.specs.declared.faults.Question.{Question}
 use Rattle.job.specs.Reading.{Out, got, fault, and_then}
 

@@ -1,10 +1,10 @@
 -- The letters, the maps, the header's fields and a record keep to the layout.
-use Rattle.std.proofs.Common.{◌≡◌, ℕ, zero, suc, ◌+◌, ◌*◌, ◌<◌, ◌≤◌, Bool, true, false, not, ◌&&◌, ◌||◌, eqb, leb, List, [], ◌∷◌, length, get_or, take, drop, ℤ, is_some, IfSome, Some, None, Option, sym, refl, ap, ◌∙◌, subst, ⊎_elim, add-zero, arith, w16, SFits}
+use Rattle.std.proofs.Common.{◌≡◌, ℕ, zero, suc, ◌+◌, ◌*◌, ◌<◌, ◌≤◌, Bool, true, false, not, ◌&&◌, ◌||◌, eqb, List, [], ◌∷◌, length, get_or, take, drop, ℤ, is_some, IfSome, Some, None, Option, sym, refl, ap, ◌∙◌, subst, ⊎_elim, add-zero, arith, w16, SFits}
 use Rattle.std.specs.List.{flat_map, AllByRecursion}
 use Rattle.std.proofs.lemmas.Bool.Decides.{nat_tests}
 use Rattle.std.proofs.lemmas.List.{get_or-drop}
 use Rattle.std.proofs.lemmas.List.Prefix.{at_reads, at_from_reads}
-use Rattle.std.proofs.lemmas.Bool.{leb-true, le-leb, eqb-true, eq-eqb, and_parts, and_from, or_cases, cases_lt, both_ways, not_from_true}
+use Rattle.std.proofs.lemmas.Bool.{eqb-true, and_parts, or_cases, cases_lt, both_ways, not_from_true}
 use Rattle.job.specs.declared.faults.Question.TheVariants.{Letters, Map, Whole, Range}
 use Rattle.ladder.specs.declared.poses.Limits.{Limits}
 use Rattle.job.specs.declared.values.Arm.{Arm}
@@ -80,13 +80,6 @@ signed_lawful = tested_lawful Whole signed_tested
 ranged_lawful : (low high : ℕ) → between low high 1 ≡ true → Lawful (ranged low high) (λ n. a_number low high n ∷ []) (λ n. (n < 65536) × (between low high n ≡ true))
 ranged_lawful low high z = only_lawful Whole Range word_tested (between low high) word_moved (1, omega arith, z)
 
--- a number in a range, as a test and as two facts
-pub between_true : (low high n : ℕ) → between low high n ≡ true → (low ≤ n) × (n ≤ high)
-between_true low high n e = grind (arith, nat_tests)
-
-pub true_between : (low high n : ℕ) → low ≤ n → n ≤ high → between low high n ≡ true
-true_between low high n a b = grind (arith, nat_tests)
-
 -- a pose list after its count
 abbrev PosesFit : List Pose → Type 0
 PosesFit l = (1 ≤ length l) × (length l ≤ 16) × AllByRecursion PoseFits l
@@ -97,8 +90,8 @@ list_lawful n = lawful_again _ _ _ (λ s p. sym (via_whole (λ c. poses_of_bytes
 poses_lawful : Lawful poses (λ l. a_count (length l) ∷ (a_part (flat_map pose_bytes l) ∷ [])) PosesFit
 poses_lawful = lawful_again poses (λ l. a_count (length l) ∷ (a_part (flat_map pose_bytes l) ∷ [])) PosesFit (λ s p. refl)
     (λ l w. ap (λ k. a_count (length l) ∷ (record { bytes = flat_map pose_bytes l; asks = has k ∷ [] } ∷ [])) (sym (length_spelled l)))
-    (λ l w. let b = between_true 1 16 (length l) w.0.1 in (b.0, b.1, w.1.1))
-    (λ l w. ((omega (arith, w.1), true_between 1 16 (length l) w.0 w.1), (refl, w.2)))
+    (λ l w. grind (arith, nat_tests))
+    (λ l w. ((omega (arith, w.1), grind (arith, nat_tests)), (refl, w.2)))
     (under_lawful length count_lawful list_lawful (λ n l u v. v.0))
 
 -- a note after its length
@@ -279,7 +272,7 @@ heading_lawful = lawful_again heading (λ c. head_pieces c.0 c.1) (λ c. HeadFit
         arm = found_from (stands m 2) ArmFits c.0.arm v.1.0;
         ration = found_from (stands m 4) RationFits c.0.ration v.1.1.0;
       },
-      (between_true 0 128 c.1 v.1.1.1.1).1,
+      grind (arith, nat_tests),
     ))
     (λ c w.
     let m = head_map c.0 in
@@ -292,7 +285,7 @@ heading_lawful = lawful_again heading (λ c. head_pieces c.0 c.1) (λ c. HeadFit
             fits_from (stands m 2) ArmFits c.0.arm t.second w.0.arm,
             (
               fits_from (stands m 4) RationFits c.0.ration t.third w.0.ration,
-              (omega (arith, w.1), true_between 0 128 c.1 (omega arith) w.1),
+              (omega (arith, w.1), grind (arith, nat_tests)),
             ),
           ),
         ),

@@ -1,4 +1,4 @@
-use Rattle.std.proofs.Common.{◌≡◌, ℕ, List, map, Some, unwrap_or, sym, ap, ◌∙◌, subst}
+use Rattle.std.proofs.Common.{◌≡◌, ℕ, List, map, sym, ap, subst}
 use Rattle.job.specs.Reading.{got}
 use Rattle.job.specs.Resolved.{origin}
 use Rattle.job.specs.Rows.{row_v, in_use}
