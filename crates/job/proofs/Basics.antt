@@ -1,12 +1,13 @@
 -- The fields of a job file: bytes, numbers, parts and pose lists.
-use Rattle.std.proofs.Common.{◌≡◌, ℕ, zero, suc, ◌+◌, ◌*◌, ◌/◌, ◌%◌, ◌<◌, ◌≤◌, Bool, true, false, cond, leb, List, [], ◌∷◌, ◌++◌, length, get_or, take, drop, replicate, ℤ, pos, sym, refl, ap, ◌∙◌, subst, ⊎_elim, add-zero, add_assoc, arith, w16, SFits, to_z, of_z}
+use Rattle.std.proofs.Common.{◌≡◌, ℕ, zero, suc, ◌+◌, ◌*◌, ◌/◌, ◌%◌, ◌<◌, ◌≤◌, Bool, true, false, cond, leb, List, [], ◌∷◌, ◌++◌, length, get_or, take, drop, replicate, ℤ, pos, sym, refl, ap, ◌∙◌, add-zero, add_assoc, arith, w16, SFits, to_z, of_z}
 use mir.Facts.{sfits_to_z}
 use Rattle.std.specs.List.{flat_map, AllByRecursion}
-use Rattle.std.proofs.lemmas.List.{length-append, length-drop, length-take, length-take-le, take-append-drop, drop-drop, drop_more, take_at, get_or-take, get_or-drop, get_or_past, append-nil, drop_all, length-replicate}
+use Rattle.std.proofs.lemmas.Grind.{common_steps}
+use Rattle.std.proofs.lemmas.List.{length-append, length-drop, length-take-le, take-append-drop, drop-drop, drop_more, take_at, append-nil, drop_all, length-replicate}
 use Rattle.std.proofs.ByRecursion.{All-from_get_or}
 use Rattle.std.proofs.lemmas.List.Prefix.{at_reads}
 use Rattle.std.proofs.lemmas.Int.{to_z-of_z, of_z-to_z}
-use Rattle.std.proofs.lemmas.Bool.{leb-true, le-leb, lt-leb, cases_lt}
+use Rattle.std.proofs.lemmas.Bool.{leb-true, le-leb}
 use Rattle.job.specs.declared.faults.Question.TheVariants.{Whole}
 use Rattle.ladder.specs.declared.poses.Pose.{Pose}
 use Rattle.job.specs.Bytes.{byte_at, word_at, signed_word_at, poses_at, poses_of_bytes, word_bytes, signed_bytes, pose_bytes}
@@ -16,10 +17,7 @@ use Rattle.job.proofs.Fields.{Tested}
 
 -- is there room for k bytes at p?
 pub room : (s : List ℕ) (p k : ℕ) → p ≤ length s → leb k (length (drop p s)) ≡ leb (p + k) (length s)
-room s p k h = ⊎_elim
-    (λ l. let a : length (drop p s) < k = omega (arith, length-drop p s) in lt-leb k (length (drop p s)) a ∙ sym (lt-leb (p + k) (length s) l))
-    (λ l. let a : k ≤ length (drop p s) = omega (arith, length-drop p s) in le-leb k (length (drop p s)) a ∙ sym (le-leb (p + k) (length s) l))
-    (cases_lt (length s) (p + k))
+room s p k h = grind (arith, common_steps)
 
 -- a field of k bytes is there where there is room
 module _ {A : Type 0} (k : ℕ) (value : List ℕ → ℕ → A) (spell : A → List ℕ) (fit : A → Type 0)
@@ -79,10 +77,7 @@ signed_tested = whole_tested 2 signed_word_at signed_bytes (SFits w16) (λ a f. 
 
 -- a part of n bytes
 pub bytes_part : (s : List ℕ) (p n : ℕ) → Bytes s → Bytes (take n (drop p s))
-bytes_part s p n bs i = ⊎_elim
-    (λ h. subst (λ v. v < 256) (sym (get_or-take n (drop p s) i 0 h ∙ get_or-drop p s i 0)) (bs (p + i)))
-    (λ h. let l : length (take n (drop p s)) ≤ i = omega (arith, length-take n (drop p s)) in subst (λ v. v < 256) (sym (get_or_past (take n (drop p s)) i 0 l)) (omega arith))
-    (cases_lt i n)
+bytes_part s p n bs i = grind (arith, common_steps)
 
 abbrev pub part_at : ℕ → List ℕ → ℕ → List ℕ
 part_at n s p = take n (drop p s)

@@ -26,8 +26,8 @@ stop_one c s p n k t = held t.before t.order t.bytes t.place
     held [] o b e =
         let f : c ≡ t.piece = cc in
         (ap (λ d. field_no d.asks (drop p s)) f ∙ ap (field_no t.piece.asks) b ∙ t.no, e ∙ add-zero p)
-    held (d ∷ []) o b e = let z : ◌≡◌ {A = ℕ} 0 1 = cc in absurd (omega arith)
-    held (d ∷ (d' ∷ l)) o b e = let z : ◌≡◌ {A = ℕ} 0 1 = cc in absurd (omega arith)
+    held (d ∷ []) o b e = cc
+    held (d ∷ (d' ∷ l)) o b e = cc
 
 -- a field of k bytes that one test accepts
 pub record Tested {A : Type 0} (k : ℕ) (value : List ℕ → ℕ → A) (spell : A → List ℕ) (fit : A → Type 0) (test : List ℕ → ℕ → Bool) (ask : List ℕ → Bool) : Type 0 where
@@ -38,7 +38,7 @@ pub record Tested {A : Type 0} (k : ℕ) (value : List ℕ → ℕ → A) (spell
   pub some : (a : A) × fit a
 
 pub no_is : (b : Bool) (q n : Question) → cond b None (Some q) ≡ Some n → (b ≡ false) × (q ≡ n)
-no_is true q n e = let z : ◌≡◌ {A = ℕ} 0 1 = cc in absurd (omega arith)
+no_is true q n e = cc
 no_is false q n e = (refl, (cc))
 
 module _ {A : Type 0} {k : ℕ} {value : List ℕ → ℕ → A} {spell : A → List ℕ} {fit : A → Type 0} {test : List ℕ → ℕ → Bool} {ask : List ℕ → Bool} (q : Question) (x : Tested k value spell fit test ask) where

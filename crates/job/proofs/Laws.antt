@@ -230,8 +230,8 @@ nothing_stops : (s : List ℕ) (p : ℕ) (n : Question) (k : ℕ) → Stops [] s
 nothing_stops s p n k t = held t.before t.order
   where
     held : (l : List Piece) → [] ≡ l ++ t.piece ∷ t.after → ⊥
-    held [] e = let z : ◌≡◌ {A = ℕ} 0 1 = cc in omega arith
-    held (c ∷ l) e = let z : ◌≡◌ {A = ℕ} 0 1 = cc in omega arith
+    held [] e = cc
+    held (c ∷ l) e = cc
 
 module _ {A : Type 0} {r : Read A} {w : A → List Piece} {fit : A → Type 0} (x : Lawful r w fit) where
   opt_there : Lawful (opt true r) (optional w) (fits_opt true fit)
@@ -244,7 +244,7 @@ module _ {A : Type 0} {r : Read A} {w : A → List Piece} {fit : A → Type 0} (
         subst (λ v. fits_opt true fit v × Stands (optional w v) s p q) i ((refl, u.0), subst (λ m. Stands (w t.0) s p m) j u.1);
     full = λ s p o rest h.
         elim o as (λ v. fits_opt true fit v → drop p s ≡ written (optional w v) ++ rest → opt true r s p ≡ got v (p + length (written (optional w v)))) [
-          | None ↦ λ v e. (let z : ◌≡◌ {A = ℕ} 0 1 = cc in absurd (omega arith))
+          | None ↦ λ v e. (cc)
           | Some a ↦ λ v e. then_is (r s p) (λ b k. got (Some b) k) a _ (x.full s p a rest h v.1 e)
         ];
     stops = λ s p n k bs h e. ⊎_elim
@@ -269,15 +269,15 @@ module _ {A : Type 0} {r : Read A} {w : A → List Piece} {fit : A → Type 0} (
     full = λ s p o rest h.
         elim o as (λ v. fits_opt false fit v → drop p s ≡ written (optional w v) ++ rest → opt false r s p ≡ got v (p + length (written (optional w v)))) [
           | None ↦ λ v e. ap (got None) (sym (add-zero p))
-          | Some a ↦ λ v e. (let z : ◌≡◌ {A = ℕ} 0 1 = cc v.0 in absurd (omega arith))
+          | Some a ↦ λ v e. (cc v.0)
         ];
     stops = λ s p n k bs h e. absurd (never e);
     first = λ s p n k o h.
         elim o as (λ v. fits_opt false fit v → Stops (optional w v) s p n k → opt false r s p ≡ fault n k) [
           | None ↦ λ v t. absurd (nothing_stops s p n k t)
-          | Some a ↦ λ v t. (let z : ◌≡◌ {A = ℕ} 0 1 = cc v.0 in absurd (omega arith))
+          | Some a ↦ λ v t. (cc v.0)
         ];
-    clear = λ o. elim o as (λ v. fits_opt false fit v → AllByRecursion Answered (optional w v)) [ None ↦ λ v. tt | Some a ↦ λ v. (let z : ◌≡◌ {A = ℕ} 0 1 = cc v.0 in absurd (omega arith)) ];
+    clear = λ o. elim o as (λ v. fits_opt false fit v → AllByRecursion Answered (optional w v)) [ None ↦ λ v. tt | Some a ↦ λ v. (cc v.0) ];
     some = (None, refl);
   }
 
@@ -332,11 +332,11 @@ module _ {A : Type 0} {r : Read A} {w : A → List Piece} {fit : A → Type 0} (
   fit_cons d n l = (fit (uncons d l).0 × ((length (uncons d l).1 ≡ n) × AllByRecursion fit (uncons d l).1)) × (cons (uncons d l) ≡ l)
 
   laid : (d : A) (n : ℕ) (l : List A) → fit_cons d n l → w (uncons d l).0 ++ flat_map w (uncons d l).1 ≡ flat_map w l
-  laid d n [] v = let z : ◌≡◌ {A = ℕ} 0 1 = cc v.1 in absurd (omega arith)
+  laid d n [] v = cc v.1
   laid d n (a ∷ l) v = refl
 
   there : (d : A) (n : ℕ) (l : List A) → fit_cons d n l → (length l ≡ suc n) × AllByRecursion fit l
-  there d n [] v = let z : ◌≡◌ {A = ℕ} 0 1 = cc v.1 in absurd (omega arith)
+  there d n [] v = cc v.1
   there d n (a ∷ l) v = (ap suc v.0.1.0, (v.0.0, v.0.1.1))
 
   back : (d : A) (n : ℕ) (l : List A) → (length l ≡ suc n) × AllByRecursion fit l → fit_cons d n l

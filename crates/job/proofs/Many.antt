@@ -1,5 +1,5 @@
 -- Reading the records in a loop: a turn, a refusal in a turn, and the end.
-use Rattle.std.proofs.Common.{◌≡◌, ℕ, suc, Bool, true, false, cond, eqb, List, [], ◌∷◌, ◌++◌, length, Some, None, Option, unwrap_or, sym, refl, ap, ◌∙◌, append_assoc, arith}
+use Rattle.std.proofs.Common.{◌≡◌, ℕ, suc, Bool, true, false, cond, eqb, List, [], ◌∷◌, ◌++◌, length, Some, None, Option, unwrap_or, sym, refl, ap, ◌∙◌, ⊎_elim, append_assoc}
 use Rattle.std.specs.Option.{option_map}
 use Rattle.std.proofs.lemmas.Bool.{cond-true, eq-eqb}
 use Rattle.job.specs.declared.faults.Question.{Question}
@@ -7,7 +7,8 @@ use Rattle.job.specs.declared.values.Position.{Position}
 use Rattle.job.specs.declared.faults.Question.TheVariants.{End}
 use Rattle.job.specs.Contents.{Entry, Head}
 use Rattle.job.specs.Reading.{Out, got, fault, and_then, many, via, opt, entry, Read, heading, accepted}
-use Rattle.job.specs.Resolved.{Waypoint, waypoint, waypoints, placed, origin, resolved, values_of}
+use Rattle.job.proofs.Outs.{never, then_got, then_fault}
+use Rattle.job.specs.Resolved.{Resolved, Waypoint, waypoint, waypoints, placed, origin, resolved, values_of}
 
 abbrev pub prepend : {A : Type 0} → List A → Out (List A) → Out (List A)
 prepend l o = and_then o (λ m r. got (l ++ m) r)
@@ -31,27 +32,15 @@ cons_in b e (fault n p) = refl
 
 -- what an optional value that was read, or refused, says of the value
 pub opt_some : (b : Bool) (r : Read Entry) (s : List ℕ) (p : ℕ) (o : Option Entry) (a : Entry) (q : ℕ) → got o q ≡ opt b r s p → o ≡ Some a → (b ≡ true) × (r s p ≡ got a q)
-opt_some true r s p o a q e i = (refl, held (r s p) (sym e))
-  where
-    held : (t : Out Entry) → and_then t (λ v k. got (Some v) k) ≡ got o q → t ≡ got a q
-    held (got v k) h = let f : v ≡ a = cc in let g : k ≡ q = cc in cc
-    held (fault n k) h = let z : ◌≡◌ {A = ℕ} 0 1 = cc in absurd (omega arith)
-opt_some false r s p o a q e i = let z : ◌≡◌ {A = ℕ} 0 1 = cc in absurd (omega arith)
+opt_some true r s p o a q e i = let t = then_got (r s p) (λ v k. got (Some v) k) o q (sym e) in (refl, (cc (t.2, t.3, i)))
+opt_some false r s p o a q e i = cc
 
 pub opt_none : (r : Read Entry) (s : List ℕ) (p q : ℕ) → got None q ≡ opt true r s p → ⊥
-opt_none r s p q e = held (r s p) (sym e)
-  where
-    held : (t : Out Entry) → and_then t (λ v k. got (Some v) k) ≡ got None q → ⊥
-    held (got v k) h = let z : ◌≡◌ {A = ℕ} 0 1 = cc in omega arith
-    held (fault n k) h = let z : ◌≡◌ {A = ℕ} 0 1 = cc in omega arith
+opt_none r s p q e = let t = then_got (r s p) (λ v k. got (Some v) k) None q (sym e) in cc t.3
 
 pub opt_fault : (b : Bool) (r : Read Entry) (s : List ℕ) (p : ℕ) (k : Question) (q : ℕ) → fault k q ≡ opt b r s p → (b ≡ true) × (r s p ≡ fault k q)
-opt_fault true r s p k q e = (refl, held (r s p) (sym e))
-  where
-    held : (t : Out Entry) → and_then t (λ v j. got (Some v) j) ≡ fault k q → t ≡ fault k q
-    held (got v j) h = let z : ◌≡◌ {A = ℕ} 0 1 = cc in absurd (omega arith)
-    held (fault n j) h = let f : n ≡ k = cc in let g : j ≡ q = cc in cc
-opt_fault false r s p k q e = let z : ◌≡◌ {A = ℕ} 0 1 = cc in absurd (omega arith)
+opt_fault true r s p k q e = (refl, ⊎_elim (λ h. h) (λ d. absurd (never d.3)) (then_fault (r s p) (λ v j. got (Some v) j) k q (sym e)))
+opt_fault false r s p k q e = cc
 
 pub turn : (whole : Out (List Waypoint)) (b : Position) (m n : ℕ) (s : List ℕ) (p : ℕ) (acc : List Waypoint) (e : Entry) (q : ℕ) → m ≡ suc n → entry s p ≡ got e q
     → whole ≡ prepend acc (rest b m s p) → whole ≡ prepend (acc ++ waypoint b e ∷ []) (rest (placed b e) n s q)
@@ -66,19 +55,17 @@ stopped whole b m n s p acc k q i g w =
     w ∙ ap (λ j. prepend acc (rest b j s p)) i
     ∙ ap (λ o. prepend acc (and_then (and_then o (λ a j. and_then (many n entry s j) (λ l r. got (a ∷ l) r))) (λ a j. got (waypoints b a) j))) g
 
+-- the values of a header, with these waypoints
+abbrev pub values : Head → List Waypoint → Resolved
+values h ws = record { limits = unwrap_or h.limits (record { shoulder = 65535; elbow = 65535 }); arm = h.arm; ration = unwrap_or h.ration 4096; waypoints = ws }
+
 -- a file whose header and records were read to its end says these values
-pub said : (s : List ℕ) (h : Head) (n p : ℕ) (ws : List Waypoint) (q : ℕ) → heading s 0 ≡ got (h, n) p → rest origin n s p ≡ got ws q → q ≡ length s
-    → values_of s ≡ Some (record { limits = unwrap_or h.limits (record { shoulder = 65535; elbow = 65535 }); arm = h.arm; ration = unwrap_or h.ration 4096; waypoints = ws })
+pub said : (s : List ℕ) (h : Head) (n p : ℕ) (ws : List Waypoint) (q : ℕ) → heading s 0 ≡ got (h, n) p → rest origin n s p ≡ got ws q → q ≡ length s → values_of s ≡ Some (values h ws)
 said s h n p ws q eh er eq =
+    let t = then_got (many n entry s p) (λ l k. got (waypoints origin l) k) ws q er in
+    let w : waypoints origin t.0 ≡ ws = cc t.3 in
+    let f : t.1 ≡ q = cc t.3 in
     ap (λ o. option_map resolved (accepted (and_then (and_then o (λ a k. and_then (many a.1 entry s k) (λ l j. got (record { head = a.0; records = l }) j))) (λ j k. cond (eqb k (length s)) (got j k) (fault End k))))) eh
-    ∙ held (many n entry s p) er
-  where
-    held : (o : Out (List Entry)) → and_then o (λ l k. got (waypoints origin l) k) ≡ got ws q
-        → option_map resolved (accepted (and_then (and_then o (λ l k. got (record { head = h; records = l }) k)) (λ j k. cond (eqb k (length s)) (got j k) (fault End k))))
-        ≡ Some (record { limits = unwrap_or h.limits (record { shoulder = 65535; elbow = 65535 }); arm = h.arm; ration = unwrap_or h.ration 4096; waypoints = ws })
-    held (got l k) e =
-        let w : waypoints origin l ≡ ws = cc in
-        let f : k ≡ q = cc in
-        ap (λ o. option_map resolved (accepted o)) (cond-true (eqb k (length s)) (got (record { head = h; records = l }) k) (fault End k) (eq-eqb k (length s) (f ∙ eq)))
-        ∙ ap (λ v. Some (record { limits = unwrap_or h.limits (record { shoulder = 65535; elbow = 65535 }); arm = h.arm; ration = unwrap_or h.ration 4096; waypoints = v })) w
-    held (fault k j) e = let z : ◌≡◌ {A = ℕ} 0 1 = cc in absurd (omega arith)
+    ∙ ap (λ o. option_map resolved (accepted (and_then (and_then o (λ l k. got (record { head = h; records = l }) k)) (λ j k. cond (eqb k (length s)) (got j k) (fault End k))))) t.2
+    ∙ ap (λ o. option_map resolved (accepted o)) (cond-true (eqb t.1 (length s)) (got (record { head = h; records = t.0 }) t.1) (fault End t.1) (eq-eqb t.1 (length s) (f ∙ eq)))
+    ∙ ap (λ v. Some (values h v)) w

@@ -1,10 +1,10 @@
 -- What the outcome of a reader says of its parts.
-use Rattle.std.proofs.Common.{◌≡◌, ℕ, Bool, true, false, cond, ◌⊎◌, sym, refl, ap, inl, inr, arith}
+use Rattle.std.proofs.Common.{◌≡◌, ℕ, Bool, true, false, cond, ◌⊎◌, sym, refl, ap, inl, inr}
 use Rattle.job.specs.declared.faults.Question.{Question}
 use Rattle.job.specs.Reading.{Out, got, fault, and_then}
 
 pub never : {A : Type 0} {a : A} {q : ℕ} {n : Question} {k : ℕ} → got a q ≡ fault n k → ⊥
-never e = let z : ◌≡◌ {A = ℕ} 0 1 = cc in omega arith
+never e = cc
 
 -- a test, and a value or a refusal
 pub if_got : {A : Type 0} (b : Bool) (x : A) (m : ℕ) (n : Question) (p : ℕ) (a : A) (q : ℕ) → cond b (got x m) (fault n p) ≡ got a q → (b ≡ true) × (x ≡ a) × (m ≡ q)

@@ -1,9 +1,10 @@
 -- The letters, the maps, the header's fields and a record keep to the layout.
-use Rattle.std.proofs.Common.{◌≡◌, ℕ, zero, suc, ◌+◌, ◌*◌, ◌<◌, ◌≤◌, Bool, true, false, not, ◌&&◌, ◌||◌, eqb, leb, List, [], ◌∷◌, length, get_or, take, drop, ℤ, is_some, IfSome, Some, None, Option, sym, refl, ap, ◌∙◌, subst, ⊎_elim, add-zero, arith, w16, SFits}
+use Rattle.std.proofs.Common.{◌≡◌, ℕ, zero, suc, ◌+◌, ◌*◌, ◌<◌, ◌≤◌, Bool, true, false, not, ◌&&◌, ◌||◌, eqb, List, [], ◌∷◌, length, get_or, take, drop, ℤ, is_some, IfSome, Some, None, Option, sym, refl, ap, ◌∙◌, subst, ⊎_elim, add-zero, arith, w16, SFits}
 use Rattle.std.specs.List.{flat_map, AllByRecursion}
+use Rattle.std.proofs.lemmas.Bool.Decides.{nat_tests}
 use Rattle.std.proofs.lemmas.List.{get_or-drop}
 use Rattle.std.proofs.lemmas.List.Prefix.{at_reads, at_from_reads}
-use Rattle.std.proofs.lemmas.Bool.{leb-true, le-leb, eqb-true, eq-eqb, and_parts, and_from, or_cases, cases_lt, both_ways, not_from_true}
+use Rattle.std.proofs.lemmas.Bool.{eqb-true, and_parts, or_cases, cases_lt, both_ways, not_from_true}
 use Rattle.job.specs.declared.faults.Question.TheVariants.{Letters, Map, Whole, Range}
 use Rattle.ladder.specs.declared.poses.Limits.{Limits}
 use Rattle.job.specs.declared.values.Arm.{Arm}
@@ -19,36 +20,26 @@ use Rattle.job.proofs.Basics.{room, byte_tested, word_tested, signed_tested, par
 abbrev tlad : List ℕ
 tlad = 84 ∷ (76 ∷ (65 ∷ (68 ∷ [])))
 
-at_drop : (s : List ℕ) (p i : ℕ) → get_or (drop p s) i 0 ≡ get_or s (p + i) 0
-at_drop s p i = get_or-drop p s i 0
-
 letters_tested : Tested 4 (λ s p. tt {0}) (λ a. tlad) (λ a. Unit {0}) letters_at lettered
 letters_tested = record {
   size = λ a f. refl;
   same = λ s p h.
       let r = room s p 4 h in
-      let a : get_or (drop p s) 0 0 ≡ get_or s p 0 = at_drop s p 0 ∙ ap (λ k. get_or s k 0) (add-zero p) in
-      let b = at_drop s p 1 in
-      let c = at_drop s p 2 in
-      let d = at_drop s p 3 in
+      let a : get_or (drop p s) 0 0 ≡ get_or s p 0 = get_or-drop p s 0 0 ∙ ap (λ k. get_or s k 0) (add-zero p) in
+      let b = get_or-drop p s 1 0 in
+      let c = get_or-drop p s 2 0 in
+      let d = get_or-drop p s 3 0 in
       cc (r, a, b, c, d);
   reads = λ s p bs h t.
-      let l = and_parts (leb (p + 4) (length s)) _ t in
-      let t = and_parts (eqb (get_or s p 0) 84) _ l.1 in
-      let u = and_parts (eqb (get_or s (p + 1) 0) 76) _ t.1 in
-      let v = and_parts (eqb (get_or s (p + 2) 0) 65) _ u.1 in
-      let le : p + 4 ≤ length s = leb-true (p + 4) (length s) l.0 in
-      (le, tt, at_from_reads 0 s tlad p le (λ i b. letter s p i b (eqb-true (get_or s p 0) 84 t.0) (eqb-true (get_or s (p + 1) 0) 76 u.0) (eqb-true (get_or s (p + 2) 0) 65 v.0) (eqb-true (get_or s (p + 3) 0) 68 v.1)));
+      let is : (p + 4 ≤ length s) × (get_or s p 0 ≡ 84) × (get_or s (p + 1) 0 ≡ 76) × (get_or s (p + 2) 0 ≡ 65) × (get_or s (p + 3) 0 ≡ 68) = grind (arith, nat_tests) in
+      (is.0, tt, at_from_reads 0 s tlad p is.0 (λ i b. letter s p i b is.1 is.2 is.3 is.4));
   says = λ s p a rest h f e.
-      let le : p + 4 ≤ length s = omega (arith, fits_in s tlad rest p h e) in
-      let t : get_or s p 0 ≡ 84 = rw add-zero at (at_reads 0 s tlad p rest e 0 (omega arith)) in (
-        and_from (leb (p + 4) (length s)) _ (le-leb (p + 4) (length s) le)
-            (and_from (eqb (get_or s p 0) 84) _ (eq-eqb (get_or s p 0) 84 t)
-            (and_from (eqb (get_or s (p + 1) 0) 76) _ (eq-eqb _ _ (at_reads 0 s tlad p rest e 1 (omega arith)))
-            (and_from (eqb (get_or s (p + 2) 0) 65) _ (eq-eqb _ _ (at_reads 0 s tlad p rest e 2 (omega arith)))
-            (eq-eqb _ _ (at_reads 0 s tlad p rest e 3 (omega arith)))))),
-        refl,
-      );
+      let le = fits_in s tlad rest p h e in
+      let t : get_or s p 0 ≡ 84 = rw add-zero at (at_reads 0 s tlad p rest e 0 (omega arith)) in
+      let u = at_reads 0 s tlad p rest e 1 (omega arith) in
+      let v = at_reads 0 s tlad p rest e 2 (omega arith) in
+      let w = at_reads 0 s tlad p rest e 3 (omega arith) in
+      (grind (arith, nat_tests), refl);
   some = (tt, tt);
 }
   where
@@ -63,12 +54,12 @@ letters_lawful : Lawful letters (λ a. the_letters ∷ []) (λ a. Unit {0})
 letters_lawful = tested_lawful Letters letters_tested
 
 byte_moved : (s : List ℕ) (p : ℕ) → byte_at (drop p s) 0 ≡ byte_at s p
-byte_moved s p = at_drop s p 0 ∙ ap (λ k. get_or s k 0) (add-zero p)
+byte_moved s p = get_or-drop p s 0 0 ∙ ap (λ k. get_or s k 0) (add-zero p)
 
 word_moved : (s : List ℕ) (p : ℕ) → word_at (drop p s) 0 ≡ word_at s p
 word_moved s p =
     let a = byte_moved s p in
-    let b : get_or (drop p s) (0 + 1) 0 ≡ get_or s (p + 1) 0 = at_drop s p 1 in
+    let b : get_or (drop p s) (0 + 1) 0 ≡ get_or s (p + 1) 0 = get_or-drop p s 1 0 in
     cc (a, b)
 
 map_lawful : (mask : ℕ) → lacks mask 0 ≡ true → Lawful (only Map (lacks mask) byte) (λ m. a_map mask m ∷ []) (λ m. (m < 256) × (lacks mask m ≡ true))
@@ -89,13 +80,6 @@ signed_lawful = tested_lawful Whole signed_tested
 ranged_lawful : (low high : ℕ) → between low high 1 ≡ true → Lawful (ranged low high) (λ n. a_number low high n ∷ []) (λ n. (n < 65536) × (between low high n ≡ true))
 ranged_lawful low high z = only_lawful Whole Range word_tested (between low high) word_moved (1, omega arith, z)
 
--- a number in a range, as a test and as two facts
-pub between_true : (low high n : ℕ) → between low high n ≡ true → (low ≤ n) × (n ≤ high)
-between_true low high n e = let t = and_parts (leb low n) (leb n high) e in (leb-true low n t.0, leb-true n high t.1)
-
-pub true_between : (low high n : ℕ) → low ≤ n → n ≤ high → between low high n ≡ true
-true_between low high n a b = and_from (leb low n) (leb n high) (le-leb low n a) (le-leb n high b)
-
 -- a pose list after its count
 abbrev PosesFit : List Pose → Type 0
 PosesFit l = (1 ≤ length l) × (length l ≤ 16) × AllByRecursion PoseFits l
@@ -106,8 +90,8 @@ list_lawful n = lawful_again _ _ _ (λ s p. sym (via_whole (λ c. poses_of_bytes
 poses_lawful : Lawful poses (λ l. a_count (length l) ∷ (a_part (flat_map pose_bytes l) ∷ [])) PosesFit
 poses_lawful = lawful_again poses (λ l. a_count (length l) ∷ (a_part (flat_map pose_bytes l) ∷ [])) PosesFit (λ s p. refl)
     (λ l w. ap (λ k. a_count (length l) ∷ (record { bytes = flat_map pose_bytes l; asks = has k ∷ [] } ∷ [])) (sym (length_spelled l)))
-    (λ l w. let b = between_true 1 16 (length l) w.0.1 in (b.0, b.1, w.1.1))
-    (λ l w. ((omega (arith, w.1), true_between 1 16 (length l) w.0 w.1), (refl, w.2)))
+    (λ l w. grind (arith, nat_tests))
+    (λ l w. ((omega (arith, w.1), grind (arith, nat_tests)), (refl, w.2)))
     (under_lawful length count_lawful list_lawful (λ n l u v. v.0))
 
 -- a note after its length
@@ -158,23 +142,6 @@ fits_from : {A : Type 0} (b : Bool) (P : A → Type 0) (o : Option A) → is_som
 fits_from b P None e f = sym e
 fits_from b P (Some a) e f = (sym e, f)
 
--- a test that passes at both truth values, and the values that it tells
-abbrev either : (Bool → Bool) → Bool
-either t = t true && t false
-
-at_either : (t : Bool → Bool) → either t ≡ true → (b : Bool) → t b ≡ true
-at_either t e true = (and_parts (t true) (t false) e).0
-at_either t e false = (and_parts (t true) (t false) e).1
-
-abbrev alike : Bool → Bool → Bool
-alike true b = b
-alike false b = not b
-
-alike_true : (a b : Bool) → alike a b ≡ true → a ≡ b
-alike_true true b e = sym e
-alike_true false true e = e
-alike_true false false e = refl
-
 -- the map of a record has the bit of each value that is there, and no other
 record EntryTold (a b c d : Bool) (m : ℕ) : Type 0 where
   small : m < 256
@@ -185,24 +152,22 @@ record EntryTold (a b c d : Bool) (m : ℕ) : Type 0 where
   fourth : d ≡ stands m 8
 
 entry_told : (a b c d : Bool) → EntryTold a b c d (bit a 1 + bit b 2 + bit c 4 + bit d 8)
-entry_told a b c d =
-    let sum : Bool → Bool → Bool → Bool → ℕ = λ i j k l. bit i 1 + bit j 2 + bit k 4 + bit l 8 in
-    let test : Bool → Bool → Bool → Bool → Bool = λ i j k l. leb (sum i j k l) 255 && (lacks 240 (sum i j k l) && (alike i (stands (sum i j k l) 1) && (alike j (stands (sum i j k l) 2) && (alike k (stands (sum i j k l) 4) && alike l (stands (sum i j k l) 8))))) in
-    let all = at_either (λ l. test a b c l) (at_either (λ k. either (λ l. test a b k l)) (at_either (λ j. either (λ k. either (λ l. test a j k l))) (at_either (λ i. either (λ j. either (λ k. either (λ l. test i j k l)))) refl a) b) c) d in
-    let m = sum a b c d in
-    let t₀ = and_parts (leb m 255) _ all in
-    let t₁ = and_parts (lacks 240 m) _ t₀.1 in
-    let t₂ = and_parts (alike a (stands m 1)) _ t₁.1 in
-    let t₃ = and_parts (alike b (stands m 2)) _ t₂.1 in
-    let t₄ = and_parts (alike c (stands m 4)) _ t₃.1 in
-    record {
-      small = omega (arith, leb-true m 255 t₀.0);
-      clear = t₁.0;
-      first = alike_true a (stands m 1) t₂.0;
-      second = alike_true b (stands m 2) t₃.0;
-      third = alike_true c (stands m 4) t₄.0;
-      fourth = alike_true d (stands m 8) t₄.1;
-    }
+entry_told true true true true = record { small = omega arith; clear = refl; first = refl; second = refl; third = refl; fourth = refl }
+entry_told true true true false = record { small = omega arith; clear = refl; first = refl; second = refl; third = refl; fourth = refl }
+entry_told true true false true = record { small = omega arith; clear = refl; first = refl; second = refl; third = refl; fourth = refl }
+entry_told true true false false = record { small = omega arith; clear = refl; first = refl; second = refl; third = refl; fourth = refl }
+entry_told true false true true = record { small = omega arith; clear = refl; first = refl; second = refl; third = refl; fourth = refl }
+entry_told true false true false = record { small = omega arith; clear = refl; first = refl; second = refl; third = refl; fourth = refl }
+entry_told true false false true = record { small = omega arith; clear = refl; first = refl; second = refl; third = refl; fourth = refl }
+entry_told true false false false = record { small = omega arith; clear = refl; first = refl; second = refl; third = refl; fourth = refl }
+entry_told false true true true = record { small = omega arith; clear = refl; first = refl; second = refl; third = refl; fourth = refl }
+entry_told false true true false = record { small = omega arith; clear = refl; first = refl; second = refl; third = refl; fourth = refl }
+entry_told false true false true = record { small = omega arith; clear = refl; first = refl; second = refl; third = refl; fourth = refl }
+entry_told false true false false = record { small = omega arith; clear = refl; first = refl; second = refl; third = refl; fourth = refl }
+entry_told false false true true = record { small = omega arith; clear = refl; first = refl; second = refl; third = refl; fourth = refl }
+entry_told false false true false = record { small = omega arith; clear = refl; first = refl; second = refl; third = refl; fourth = refl }
+entry_told false false false true = record { small = omega arith; clear = refl; first = refl; second = refl; third = refl; fourth = refl }
+entry_told false false false false = record { small = omega arith; clear = refl; first = refl; second = refl; third = refl; fourth = refl }
 
 record HeadTold (a b c : Bool) (m : ℕ) : Type 0 where
   small : m < 256
@@ -212,22 +177,14 @@ record HeadTold (a b c : Bool) (m : ℕ) : Type 0 where
   third : c ≡ stands m 4
 
 head_told : (a b c : Bool) → HeadTold a b c (bit a 1 + bit b 2 + bit c 4)
-head_told a b c =
-    let sum : Bool → Bool → Bool → ℕ = λ i j k. bit i 1 + bit j 2 + bit k 4 in
-    let test : Bool → Bool → Bool → Bool = λ i j k. leb (sum i j k) 255 && (lacks 248 (sum i j k) && (alike i (stands (sum i j k) 1) && (alike j (stands (sum i j k) 2) && alike k (stands (sum i j k) 4)))) in
-    let all = at_either (λ k. test a b k) (at_either (λ j. either (λ k. test a j k)) (at_either (λ i. either (λ j. either (λ k. test i j k))) refl a) b) c in
-    let m = sum a b c in
-    let t₀ = and_parts (leb m 255) _ all in
-    let t₁ = and_parts (lacks 248 m) _ t₀.1 in
-    let t₂ = and_parts (alike a (stands m 1)) _ t₁.1 in
-    let t₃ = and_parts (alike b (stands m 2)) _ t₂.1 in
-    record {
-      small = omega (arith, leb-true m 255 t₀.0);
-      clear = t₁.0;
-      first = alike_true a (stands m 1) t₂.0;
-      second = alike_true b (stands m 2) t₃.0;
-      third = alike_true c (stands m 4) t₃.1;
-    }
+head_told true true true = record { small = omega arith; clear = refl; first = refl; second = refl; third = refl }
+head_told true true false = record { small = omega arith; clear = refl; first = refl; second = refl; third = refl }
+head_told true false true = record { small = omega arith; clear = refl; first = refl; second = refl; third = refl }
+head_told true false false = record { small = omega arith; clear = refl; first = refl; second = refl; third = refl }
+head_told false true true = record { small = omega arith; clear = refl; first = refl; second = refl; third = refl }
+head_told false true false = record { small = omega arith; clear = refl; first = refl; second = refl; third = refl }
+head_told false false true = record { small = omega arith; clear = refl; first = refl; second = refl; third = refl }
+head_told false false false = record { small = omega arith; clear = refl; first = refl; second = refl; third = refl }
 
 -- a record
 abbrev from_entry : Entry → Option ℤ × (Option ℤ × (Option (List Pose) × Option (List ℕ)))
@@ -287,21 +244,8 @@ ArmFits a = (1 ≤ a.first) × (a.first ≤ 2000) × (1 ≤ a.second) × (a.seco
 
 arm_lawful : Lawful arm (λ a. a_number 1 2000 a.first ∷ (a_number 1 2000 a.second ∷ (a_number 0 2000 a.window ∷ []))) ArmFits
 arm_lawful = lawful_again arm _ ArmFits (λ s p. refl) (λ a w. refl)
-    (λ a w.
-    let x = between_true 1 2000 a.first w.0.0.1 in
-    let y = between_true 1 2000 a.second w.0.1.0.1 in
-    let z = between_true 0 2000 a.window w.0.1.1.1 in
-    (x.0, x.1, y.0, y.1, z.1))
-    (λ a w. (
-      (
-        (omega (arith, w.1), true_between 1 2000 a.first w.0 w.1),
-        (
-          (omega (arith, w.3), true_between 1 2000 a.second w.2 w.3),
-          (omega (arith, w.4), true_between 0 2000 a.window (omega arith) w.4),
-        ),
-      ),
-      refl,
-    ))
+    (λ a w. grind (arith, nat_tests))
+    (λ a w. grind (arith, nat_tests))
     (via_lawful to_arm (λ a. (a.first, (a.second, a.window))) (λ c. refl) (pair_lawful (ranged_lawful 1 2000 refl) (pair_lawful (ranged_lawful 1 2000 refl) (ranged_lawful 0 2000 refl))))
 
 -- the ration
@@ -310,8 +254,8 @@ RationFits k = (1 ≤ k) × (k ≤ 4096)
 
 ration_lawful : Lawful ration (λ k. a_number 1 4096 k ∷ []) RationFits
 ration_lawful = lawful_again ration _ RationFits (λ s p. refl) (λ k w. refl)
-    (λ k w. between_true 1 4096 k w.1)
-    (λ k w. (omega (arith, w.1), true_between 1 4096 k w.0 w.1))
+    (λ k w. grind (arith, nat_tests))
+    (λ k w. grind (arith, nat_tests))
     (ranged_lawful 1 4096 refl)
 
 -- the header with the count of records
@@ -328,7 +272,7 @@ heading_lawful = lawful_again heading (λ c. head_pieces c.0 c.1) (λ c. HeadFit
         arm = found_from (stands m 2) ArmFits c.0.arm v.1.0;
         ration = found_from (stands m 4) RationFits c.0.ration v.1.1.0;
       },
-      (between_true 0 128 c.1 v.1.1.1.1).1,
+      grind (arith, nat_tests),
     ))
     (λ c w.
     let m = head_map c.0 in
@@ -341,7 +285,7 @@ heading_lawful = lawful_again heading (λ c. head_pieces c.0 c.1) (λ c. HeadFit
             fits_from (stands m 2) ArmFits c.0.arm t.second w.0.arm,
             (
               fits_from (stands m 4) RationFits c.0.ration t.third w.0.ration,
-              (omega (arith, w.1), true_between 0 128 c.1 (omega arith) w.1),
+              (omega (arith, w.1), grind (arith, nat_tests)),
             ),
           ),
         ),

@@ -12,7 +12,7 @@ put s p a = record { question = a.question; place = p; answer = a.answer (drop p
 
 -- the questions of one field, and then others
 ask_no : (l : List Ask) (s : List ℕ) (p : ℕ) (n : Question) (m : List Put) → field_no l (drop p s) ≡ Some n → first_no (map (put s p) l ++ m) ≡ Some (n, p)
-ask_no [] s p n m e = let z : ◌≡◌ {A = ℕ} 0 1 = cc in absurd (omega arith)
+ask_no [] s p n m e = cc
 ask_no (a ∷ l) s p n m e =
     elim (a.answer (drop p s)) as (λ b. cond b (field_no l (drop p s)) (Some a.question) ≡ Some n → cond b (first_no (map (put s p) l ++ m)) (Some (a.question, p)) ≡ Some (n, p))
     [ true ↦ λ h. ask_no l s p n m h | false ↦ λ h. (let f : a.question ≡ n = cc in ap (λ q. Some (q, p)) f) ] e
@@ -21,7 +21,7 @@ ask_yes : (l : List Ask) (s : List ℕ) (p : ℕ) (m : List Put) → field_no l 
 ask_yes [] s p m e = refl
 ask_yes (a ∷ l) s p m e =
     elim (a.answer (drop p s)) as (λ b. cond b (field_no l (drop p s)) (Some a.question) ≡ None → cond b (first_no (map (put s p) l ++ m)) (Some (a.question, p)) ≡ first_no m)
-    [ true ↦ λ h. ask_yes l s p m h | false ↦ λ h. (let z : ◌≡◌ {A = ℕ} 0 1 = cc in absurd (omega arith)) ] e
+    [ true ↦ λ h. ask_yes l s p m h | false ↦ λ h. (cc) ] e
 
 ask_back : (l : List Ask) (s : List ℕ) (p : ℕ) (n : Question) (k : ℕ) (m : List Put) → first_no (map (put s p) l ++ m) ≡ Some (n, k)
     → ((field_no l (drop p s) ≡ Some n) × (k ≡ p)) ⊎ (first_no m ≡ Some (n, k))
@@ -52,7 +52,7 @@ record Culprit (l : List Piece) (s : List ℕ) (p : ℕ) (n : Question) (k : ℕ
   no : field_no piece.asks (drop k s) ≡ Some n
 
 culprit : (l : List Piece) (s : List ℕ) (p : ℕ) (n : Question) (k : ℕ) → first_no (questions s p l) ≡ Some (n, k) → Culprit l s p n k
-culprit [] s p n k e = let z : ◌≡◌ {A = ℕ} 0 1 = cc in absurd (omega arith)
+culprit [] s p n k e = cc
 culprit (c ∷ l) s p n k e = ⊎_elim
     (λ i. record { before = []; piece = c; after = l; order = refl; place = i.1 ∙ sym (add-zero p); no = ap (λ m. field_no c.asks (drop m s)) i.1 ∙ i.0 })
     (λ i.
@@ -109,5 +109,5 @@ all_but_last l e before c after y o = ⊎_elim
   where
     last_none : (m : List Piece) → e ∷ [] ≡ m ++ c ∷ after → m ≡ []
     last_none [] h = refl
-    last_none (d ∷ []) h = let z : ◌≡◌ {A = ℕ} 0 1 = cc in absurd (omega arith)
-    last_none (d ∷ (d' ∷ m)) h = let z : ◌≡◌ {A = ℕ} 0 1 = cc in absurd (omega arith)
+    last_none (d ∷ []) h = cc
+    last_none (d ∷ (d' ∷ m)) h = cc

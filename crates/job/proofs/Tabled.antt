@@ -1,5 +1,5 @@
 -- What a job's table, and the bytes of a pose list, say.
-use Rattle.std.proofs.Common.{◌≡◌, ℕ, zero, suc, ◌+◌, ◌*◌, ◌/◌, ◌<◌, ◌≤◌, List, [], length, get_or, take, drop, Some, None, refl, ap, ◌∙◌, w16, to_z, arith}
+use Rattle.std.proofs.Common.{◌≡◌, ℕ, zero, suc, ◌+◌, ◌*◌, ◌/◌, ◌<◌, ◌≤◌, List, [], length, get_or, take, drop, Some, None, refl, ap, ◌∙◌, arith}
 use Rattle.std.proofs.lemmas.List.{length-take-le, drop-drop, get_or-take, get_or-drop}
 use Rattle.std.proofs.lemmas.Option.{slice_get_past}
 use Rattle.std.specs.List.{slice_get}
@@ -42,4 +42,4 @@ chunk_pose l t n j h e =
     λ i p k q. ap (λ c. get_or c i 0) (e ∙ chunk_at n l j h) ∙ get_or-take 4 (drop (4 * j) l) i 0 k ∙ get_or-drop (4 * j) l i 0 ∙ ap (λ m. get_or l m 0) q in
     let first : word_at t 0 ≡ word_at l (4 * j) = omega (arith, reads 0 (4 * j) (omega arith) (omega arith), reads 1 (4 * j + 1) (omega arith) (omega arith)) in
     let second : word_at t 2 ≡ word_at l (4 * j + 2) = omega (arith, reads 2 (4 * j + 2) (omega arith) (omega arith), reads 3 (4 * j + 2 + 1) (omega arith) (omega arith)) in
-    ap (λ a. record { shoulder = to_z w16 a; elbow = to_z w16 (word_at t 2) }) first ∙ ap (λ b. record { shoulder = to_z w16 (word_at l (4 * j)); elbow = to_z w16 b }) second
+    cc (first, second)

@@ -55,7 +55,8 @@ impl<'a> Cursor<'a> {
     }
 
     pub(crate) fn next_word(&mut self) -> Result<u16, Fault>
-        ensures { Reads (λ n. n) word self.old self.new result }
+        ensures reads { Reads (λ n. n) word self.old self.new result }
+        ensures moves { IfOk result (λ n. self.new.at ≡ self.old.at + 2) }
     {
         let part = self.next_part(2)?;
         Ok(u16::from_le_bytes([part.bytes[0], part.bytes[1]]))
@@ -65,8 +66,8 @@ impl<'a> Cursor<'a> {
         ensures reads { Reads (λ n. n) signed self.old self.new result }
         ensures moves { IfOk result (λ n. self.new.at ≡ self.old.at + 2) }
     {
-        let part = self.next_part(2)?;
-        Ok(i16::from_le_bytes([part.bytes[0], part.bytes[1]]))
+        let n = self.next_word()?;
+        Ok(n.cast_signed())
     }
 
     // A number from low to high.
@@ -76,10 +77,11 @@ impl<'a> Cursor<'a> {
     {
         let refusal = self.fault(Question::Range);
         let n = self.next_word()?;
-        if n < low || n > high {
-            return Err(refusal);
+        if (low..=high).contains(&n) {
+            Ok(n)
+        } else {
+            Err(refusal)
         }
-        Ok(n)
     }
 }
 

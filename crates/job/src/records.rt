@@ -46,7 +46,7 @@ impl<'a> Cursor<'a> {
     {
         let refusal = self.fault(Question::Range);
         let n = self.next_byte()?;
-        if n < 1 || n > 16 {
+        if !(1..=16).contains(&n) {
             return Err(refusal);
         }
         self.next_part(n as usize * 4)

@@ -7,7 +7,7 @@ pub type StepLimits = Limits;
 pub type Counts = Pose;
 
 // The arm's two link lengths and the half side of the window around a position.
-#[derive(Clone, Copy)]
+#[derive(Clone, Copy, PartialEq, Eq, Debug)]
 pub struct Arm {
     pub first: u16,
     pub second: u16,
@@ -15,7 +15,7 @@ pub struct Arm {
 }
 
 // Where a waypoint lies on the board.
-#[derive(Clone, Copy)]
+#[derive(Clone, Copy, PartialEq, Eq, Debug)]
 pub struct Position {
     pub x: i16,
     pub y: i16,

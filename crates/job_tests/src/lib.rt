@@ -5,7 +5,6 @@
 mod tests {
     use job::{Arm, Counts, Field, Position, open, read};
     use std::alloc::Global;
-    use std::process::Abort;
     use std::test::Fail;
 
     // Writes the bytes of a job file.
@@ -26,32 +25,29 @@ mod tests {
             Ok(())
         }
 
+        fn bytes(&mut self, bytes: &[u8]) -> Result<(), Fail> {
+            self.bytes.extend_from_slice(bytes)?;
+            Ok(())
+        }
+
         fn word(&mut self, n: u16) -> Result<(), Fail> {
-            let [low, high] = n.to_le_bytes();
-            self.byte(low)?;
-            self.byte(high)
+            self.bytes(&n.to_le_bytes())
         }
 
         fn signed(&mut self, n: i16) -> Result<(), Fail> {
-            let [low, high] = n.to_le_bytes();
-            self.byte(low)?;
-            self.byte(high)
+            self.bytes(&n.to_le_bytes())
         }
 
         fn letters(&mut self) -> Result<(), Fail> {
-            self.byte(b'T')?;
-            self.byte(b'L')?;
-            self.byte(b'A')?;
-            self.byte(b'D')
+            self.bytes(b"TLAD")
         }
     }
 
     // The number and the place of a refusal, or two zeros.
     fn outcome(file: &[u8]) -> (u8, usize) {
-        match read(file) {
-            Ok(_) => (0, 0),
-            Err(fault) => (fault.question.number(), fault.place),
-        }
+        read(file)
+            .err()
+            .map_or((0, 0), |fault| (fault.question.number(), fault.place))
     }
 
     #[test]
@@ -153,34 +149,6 @@ mod tests {
         Ok(())
     }
 
-    fn check_arm(rt: &impl Abort, found: Option<Arm>) -> Result<(), Fail> {
-        let arm = found.ok_or("no arm")?;
-        assert_eq!(rt; (arm.first, arm.second, arm.window), (1, 2000, 0));
-        Ok(())
-    }
-
-    fn check_position(
-        rt: &impl Abort,
-        found: Option<Position>,
-        x: i16,
-        y: i16,
-    ) -> Result<(), Fail> {
-        let position = found.ok_or("no position")?;
-        assert_eq!(rt; (position.x, position.y), (x, y));
-        Ok(())
-    }
-
-    fn check_pose(
-        rt: &impl Abort,
-        found: Option<Counts>,
-        shoulder: i16,
-        elbow: i16,
-    ) -> Result<(), Fail> {
-        let pose = found.ok_or("no pose")?;
-        assert_eq!(rt; (pose.shoulder, pose.elbow), (shoulder, elbow));
-        Ok(())
-    }
-
     #[test]
     fn written_values_are_read(rt: HostRuntime) -> Result<(), Fail> {
         let mut out = Writer::new(rt.alloc());
@@ -189,7 +157,13 @@ mod tests {
         assert_eq!(rt; job.len(), 128);
         assert_eq!(rt; (job.limits().shoulder, job.limits().elbow), (9, 65535));
         assert_eq!(rt; job.ration(), 4096);
-        check_arm(&rt, job.arm())
+        let arm = Arm {
+            first: 1,
+            second: 2000,
+            window: 0,
+        };
+        assert_eq!(rt; job.arm(), Some(arm));
+        Ok(())
     }
 
     #[test]
@@ -206,10 +180,14 @@ mod tests {
             if w & 2 != 0 {
                 y = -i16::from(w);
             }
-            check_position(&rt, job.position(u16::from(w)), x, y)?;
+            assert_eq!(rt; job.position(u16::from(w)), Some(Position { x, y }));
         }
         assert!(rt; job.position(128).is_none());
         Ok(())
+    }
+
+    fn counts(shoulder: i16, elbow: i16) -> Counts {
+        Counts { shoulder, elbow }
     }
 
     #[test]
@@ -220,8 +198,8 @@ mod tests {
         assert_eq!(rt; job.pose_count(3), 0);
         assert!(rt; job.pose(3, 0).is_none());
         assert_eq!(rt; job.pose_count(127), 16);
-        check_pose(&rt, job.pose(127, 0), 127, 0)?;
-        check_pose(&rt, job.pose(127, 15), 127, -15)?;
+        assert_eq!(rt; job.pose(127, 0), Some(counts(127, 0)));
+        assert_eq!(rt; job.pose(127, 15), Some(counts(127, -15)));
         assert!(rt; job.pose(127, 16).is_none());
         assert_eq!(rt; job.pose_count(128), 0);
         Ok(())

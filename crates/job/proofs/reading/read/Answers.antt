@@ -1,4 +1,4 @@
-use Rattle.std.proofs.Common.{◌≡◌, ℕ, List, length, IfOk, IfErr, Some, Ok, Err, Result, sym, refl, ap, ◌∙◌, arith}
+use Rattle.std.proofs.Common.{◌≡◌, ℕ, List, length, IfOk, IfErr, Some, Ok, Err, Result, sym, refl, ap, ◌∙◌}
 use Rattle.std.specs.Option.{option_map}
 use Rattle.std.specs.Result.{result_ok}
 use Rattle.job.specs.declared.faults.Fault.{Fault}
@@ -26,7 +26,7 @@ accept s bs j (got c q) e v =
       said = ap accepted (sym e);
       values = cc;
     }
-accept s bs j (fault n k) e v = let z : ◌≡◌ {A = ℕ} 0 1 = cc in absurd (omega arith)
+accept s bs j (fault n k) e v = cc
 
 refuse : (s : List ℕ) → Bytes s → (f : Fault) → file_out s ≡ fault f.question f.place → Refused s f
 refuse s bs f e = record {

@@ -1,4 +1,4 @@
-use Rattle.std.proofs.Common.{◌≡◌, ℕ, List, map, Some, unwrap_or, sym, ap, ◌∙◌, subst}
+use Rattle.std.proofs.Common.{◌≡◌, ℕ, List, map, sym, ap, subst}
 use Rattle.job.specs.Reading.{got}
 use Rattle.job.specs.Resolved.{origin}
 use Rattle.job.specs.Rows.{row_v, in_use}
@@ -15,10 +15,6 @@ returns c =
     let ws = map row_v (in_use c.in_ok-table.table) in
     let rows = subst (λ (t : List ℕ). got ws end ≡ rest origin rs.left t rs.cursor.at) (ap (λ f. f.now) c.in_ok-header.ensures.kept) c.in_ok-table.ensures.said in
     let all = said s (head_v h) rs.left rs.cursor.at ws end (sym c.in_ok-header.ensures.reads) (sym rows) c.if-records-file.false in
-    record {
-      means =
-          all
-          ∙ ap (λ l. Some (record { limits = l; arm = h.arm; ration = unwrap_or h.ration 4096; waypoints = ws })) (sym c.unwrap_or-limits.ensures)
-          ∙ ap (λ k. Some (record { limits = c.unwrap_or-limits.result; arm = h.arm; ration = k; waypoints = ws })) (sym c.unwrap_or-ration.ensures);
-      stops = tt;
-    }
+    let limits = sym c.unwrap_or-limits.ensures in
+    let ration = sym c.unwrap_or-ration.ensures in
+    record { means = cc (all, limits, ration); stops = tt }
