@@ -1,5 +1,5 @@
 // A filter by how often the shoulder turns back.
-ghost use Rattle.std.specs.Prelude.{◌≡◌, ◌+◌, ◌^◌, ◌<◌, ◌-ℤ◌, nat_le};
+ghost use Rattle.std.specs.Prelude.{◌≡◌, ◌+◌, ◌^◌, ◌<◌, nat_le};
 ghost use Rattle.filters.specs.Turning.{opposite, turned_back};
 ghost use Rattle.filters.specs.Tallies.{gone_on};
 
@@ -20,13 +20,6 @@ struct Tally {
     reversals: usize,
 }
 
-// The second count less the first.
-fn difference(from: i16, to: i16) -> i32
-    ensures { result ≡ to -ℤ from }
-{
-    to as i32 - from as i32
-}
-
 // Whether one of two turns goes up and the other down.
 fn opposes(a: i32, b: i32) -> bool
     ensures { result ≡ opposite a b }
@@ -40,7 +33,7 @@ impl Tally {
         requires { self.old.reversals + 1 < 2 ^ 64 }
         ensures { self.new ≡ gone_on self.old shoulder }
     {
-        let turn = difference(self.shoulder, shoulder);
+        let turn = i32::from(shoulder) - i32::from(self.shoulder);
         self.shoulder = shoulder;
         if turn == 0 {
             return;
@@ -74,6 +67,6 @@ impl Filter for TurnCount {
     ghost passes = { λ c steps. nat_le (turned_back steps) c.limit };
 
     fn judge(&mut self, steps: &[Step]) -> bool {
-        reversals(steps) <= self.limit as usize
+        reversals(steps) <= usize::from(self.limit)
     }
 }

@@ -1,5 +1,5 @@
 -- One turn more of a scan for poses. Assumes nothing.
-use Rattle.std.proofs.Common.{◌≡◌, ℕ, ◌+◌, ◌≤◌, Bool, true, false, cond, [], ◌∷◌, ◌++◌, map, fold, filter, sym, refl, ap, ◌∙◌, arith}
+use Rattle.std.proofs.Common.{◌≡◌, ℕ, ◌+◌, ◌≤◌, Bool, true, false, cond, [], ◌∷◌, ◌++◌, map, fold, sym, refl, ap, ◌∙◌, arith}
 use Rattle.std.specs.List.{range_with_len, flat_map}
 use Rattle.std.proofs.iter.runs.Lists.{fold-append}
 use Rattle.std.proofs.lemmas.List.FromFn.{map-range_with_len_more}
@@ -33,12 +33,7 @@ rows_none a at = refl
 
 row_push : (a : Arm) (at : Position) (s e : ℕ) → row a at s (e + 1) ≡ row a at s e ++ cond (reaching_pose a at s e) (pose s e ∷ []) []
 unfolding row
-row_push a at s e =
-    let b = reaching_pose a at s e in
-    ap (λ ns. map (pose s) (filter (reaching_pose a at s) ns)) (counting_more e)
-    ∙ ap (map (pose s)) (filter-append (reaching_pose a at s) (range_with_len 0 e) (e ∷ []))
-    ∙ map-append (pose s) (filter (reaching_pose a at s) (range_with_len 0 e)) (cond b (e ∷ []) [])
-    ∙ ap (λ ps. map (pose s) (filter (reaching_pose a at s) (range_with_len 0 e)) ++ ps) (one_row s e b)
+row_push a at s e = simp (counting_more, filter-append, map-append, one_row) refl
 
 rows_push : (a : Arm) (at : Position) (s : ℕ) → rows a at (s + 1) ≡ rows a at s ++ row a at s 64
 unfolding rows
@@ -48,22 +43,12 @@ module _ (a : Arm) (at : Position) (g h k : Page) where
   -- an elbow e more: h was the page before and k is the page then
   pub row_more : (s e : ℕ) → k ≡ cond (reaching_pose a at s e) (with_pose h (pose s e)) h → h ≡ fold with_pose g (row a at s e)
       → k ≡ fold with_pose g (row a at s (e + 1))
-  row_more s e put before =
-      let one = cond (reaching_pose a at s e) (pose s e ∷ []) [] in
-      put
-      ∙ sym (put_one h (pose s e) (reaching_pose a at s e))
-      ∙ ap (λ x. fold with_pose x one) before
-      ∙ sym (fold-append with_pose g (row a at s e) one)
-      ∙ ap (fold with_pose g) (sym (row_push a at s e))
+  row_more s e put before = simp (row_push, fold-append, put_one, sym before) put
 
   -- a shoulder s more
   pub rows_more : (s : ℕ) → h ≡ fold with_pose g (rows a at s) → k ≡ fold with_pose h (row a at s 64)
       → k ≡ fold with_pose g (rows a at (s + 1))
-  rows_more s before put =
-      put
-      ∙ ap (λ x. fold with_pose x (row a at s 64)) before
-      ∙ sym (fold-append with_pose g (rows a at s) (row a at s 64))
-      ∙ ap (fold with_pose g) (sym (rows_push a at s))
+  rows_more s before put = simp (rows_push, fold-append, sym before) put
 
 -- a page's count rises by one at most
 pub count_more : (g k : Page) (p : Pose) (b : Bool) → k ≡ cond b (with_pose g p) g → k.count ≤ g.count + 1

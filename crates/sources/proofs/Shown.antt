@@ -1,10 +1,12 @@
 -- What stands on the page of a list. Assumes nothing.
-use Rattle.std.proofs.Common.{◌≡◌, ℕ, ◌+◌, ◌-◌, ◌<◌, ◌≤◌, Bool, true, false, cond, ltb, List, [], ◌∷◌, ◌++◌, length, get_or, set, Some, None, Option, fold, sym, refl, ap, ◌∙◌, subst, ⊎_elim, arith}
+use Rattle.std.proofs.Common.{◌≡◌, ℕ, ◌+◌, ◌-◌, ◌<◌, ◌≤◌, ltb, List, [], ◌∷◌, ◌++◌, length, get_or, Some, None, Option, fold, sym, refl, ap, ◌∙◌, subst, arith}
 use Rattle.std.specs.List.{slice_get}
 use Rattle.std.specs.Option.{is_some, IfSome}
-use Rattle.std.proofs.lemmas.List.{append-nil, append_assoc, length_push, length-set, length-replicate, get_or-set_same, get_or-set_other, get_or_push, get_or_append_left}
+use Rattle.std.proofs.lemmas.Grind.{common_steps}
+use Rattle.std.proofs.lemmas.List.{append-nil, append_assoc, length-replicate}
 use Rattle.std.proofs.lemmas.Option.{slice_get-get_or, slice_get_past}
-use Rattle.std.proofs.lemmas.Bool.{ltb-true, ltb-false, cases_eq}
+use Rattle.std.proofs.lemmas.Bool.Decides.{nat_tests}
+use Rattle.std.proofs.lemmas.Bool.{ltb-true, ltb-false}
 use Rattle.ladder.specs.declared.poses.Pose.{Pose}
 use Rattle.sources.specs.declared.pages.Page.{Page}
 use Rattle.sources.specs.Reach.{pose}
@@ -19,36 +21,18 @@ record Holds (g : Page) (ps : List Pose) : Type 0 where
 none_held : (from : ℕ) → Holds (blank from) []
 none_held from = record { wide = length-replicate 16 (pose 0 0); counted = refl; kept = λ k d h l. absurd (omega (arith, l)) }
 
--- where a pose's number lies before the page, and where it does not
-before : (g : Page) (ps : List Pose) (p : Pose) → Holds g ps → g.count < g.from → Holds (record { from = g.from; count = g.count + 1; poses = g.poses }) (ps ++ (p ∷ []))
-before g ps p o h = record {
-  wide = o.wide;
-  counted = omega (arith, o.counted, length_push ps p);
-  kept = λ k d l m. absurd (omega (arith, m, o.counted, length_push ps p));
+-- one pose more, which is kept where its number is among the sixteen
+one_more : (g : Page) (ps : List Pose) (p : Pose) → Holds g ps → Holds (with_pose g p) (ps ++ (p ∷ []))
+one_more g ps p o = record {
+  wide = grind (arith, nat_tests, common_steps, o.wide);
+  counted = grind (arith, common_steps, o.counted);
+  kept = λ k d l m. grind (arith, nat_tests, common_steps, o.wide, o.counted, o.kept k d l);
 }
-
-past : (g : Page) (ps : List Pose) (p : Pose) → Holds g ps → g.from ≤ g.count
-    → Holds (record { from = g.from; count = g.count + 1; poses = set g.poses (g.count - g.from) p }) (ps ++ (p ∷ []))
-past g ps p o h = record {
-  wide = length-set g.poses (g.count - g.from) p ∙ o.wide;
-  counted = omega (arith, o.counted, length_push ps p);
-  kept = λ k d l m. ⊎_elim
-      (λ e.
-      let at : get_or (set g.poses (g.count - g.from) p) k d ≡ p = subst (λ n. get_or (set g.poses (g.count - g.from) p) n d ≡ p) (sym e) (get_or-set_same g.poses (g.count - g.from) p d (omega (arith, o.wide))) in
-      at ∙ sym (get_or_push ps p d (g.from + k) (omega (arith, o.counted))))
-      (λ e. get_or-set_other g.poses (g.count - g.from) k p d e ∙ o.kept k d l (omega (arith, m, o.counted, length_push ps p)) ∙ sym (get_or_append_left ps (p ∷ []) d (g.from + k) (omega (arith, m, o.counted, length_push ps p))))
-      (cases_eq k (g.count - g.from));
-}
-
-one_more : (g : Page) (ps : List Pose) (p : Pose) (b : Bool) → ltb g.count g.from ≡ b → Holds g ps
-    → Holds (record { from = g.from; count = g.count + 1; poses = cond b g.poses (set g.poses (g.count - g.from) p) }) (ps ++ (p ∷ []))
-one_more g ps p true t o = before g ps p o (ltb-true g.count g.from t)
-one_more g ps p false t o = past g ps p o (ltb-false g.count g.from t)
 
 all_held : (g : Page) (ps qs : List Pose) → Holds g ps → Holds (fold with_pose g qs) (ps ++ qs)
 all_held g ps [] o = subst (Holds g) (sym (append-nil ps)) o
 all_held g ps (q ∷ qs) o =
-    subst (Holds (fold with_pose (with_pose g q) qs)) (append_assoc ps (q ∷ []) qs) (all_held (with_pose g q) (ps ++ (q ∷ [])) qs (one_more g ps q (ltb g.count g.from) refl o))
+    subst (Holds (fold with_pose (with_pose g q) qs)) (append_assoc ps (q ∷ []) qs) (all_held (with_pose g q) (ps ++ (q ∷ [])) qs (one_more g ps q o))
 
 held : (g : Page) (ps : List Pose) → Shows g ps → Holds g ps
 held g ps e = subst (λ h. Holds h ps) (sym e) (all_held (blank g.from) [] ps (none_held g.from))

@@ -12,6 +12,7 @@ even h = record { first = 100; second = 100; window = h }
 abbrev pub point : ℕ → ℕ → Position
 point x y = record { x = pos x; y = pos y }
 
+-- an arm reaches a corner in two ways, folds up on its base in every direction, and comes near a point that is too far with a wider window
 pub record Worked : Type 0 where
   pub two_ways : reaching (even 0) (point 100 100) ≡ pose 0 16 ∷ (pose 16 48 ∷ [])
   pub folded_up : length (reaching (even 0) (point 0 0)) ≡ 64
