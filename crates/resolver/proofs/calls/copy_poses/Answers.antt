@@ -1,6 +1,6 @@
 use Rattle.std.proofs.Common.{◌+◌, ◌<◌, length, take, sym, ap, ◌∙◌, arith}
 use Rattle.std.specs.List.{slice_get}
-use Rattle.resolver.proofs.Copies.{nth_none, copy_more, copy_all}
+use Rattle.resolver.proofs.Copies.{nth_none, copy_more}
 use Rattle.resolver.proofs.calls.copy_poses.Goals as goal
 use Rattle.resolver.proofs.calls.copy_poses.Goals.{in-Some, in_default}
 
@@ -19,11 +19,3 @@ loop-j-preserved g c =
       ],
       c.pose.ensures.same ∙ same,
     )
-
-pub returns : goal.returns
-returns g c =
-    let ms = g.S.Source.meaning c.args.source.now c.args.waypoint in
-    record {
-      into = copy_all c.loop-j.into ms c.loop-j.j c.loop-j.invariant.0 (omega (arith, c.loop-j-test.false)) (omega (arith, c.loop-j-test.false, c.requires));
-      same = c.loop-j.invariant.1;
-    }

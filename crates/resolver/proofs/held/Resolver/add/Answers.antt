@@ -1,42 +1,36 @@
-use Rattle.std.proofs.Common.{◌≡◌, ◌+◌, ◌<◌, ◌≤◌, [], ◌∷◌, length, sym, refl, ap, ◌∙◌, arith}
+use Rattle.std.proofs.Common.{◌≡◌, ◌+◌, ◌<◌, ◌≤◌, [], ◌∷◌, length, sym, ap, ◌∙◌, arith}
 use Rattle.book.specs.Book.{counted, with_rung}
 use Rattle.enumeration.specs.Tables.{ladder}
 use Rattle.resolver.specs.Tables.{tables_of}
-use Rattle.book.proofs.Replies.{add_closed, add_full, add_none, add_many, add_done, adding_refused, adding_done}
+use Rattle.book.proofs.Replies.{add_full, add_none, add_many, add_done, adding_refused, adding_done}
 use Rattle.resolver.specs.Standing.{book}
 use Rattle.resolver.proofs.Rungs.{length_ladder}
 use Rattle.resolver.proofs.Books.{add_book, add_sound, filled_of}
 use Rattle.resolver.proofs.held.Resolver.add.Goals as goal
 
-pub returns-then-self : goal.returns-then-self
-returns-then-self g c =
-    let k = c.args.self.now.core in
-    let list = g.S.Source.meaning c.args.source.now c.args.waypoint in
-    record { outcome = λ s. (s, adding_refused (book k) list 3 (add_closed (book k) list c.if-self.true)); same = refl }
-
-pub returns-then-self-2 : goal.returns-then-self-2
-returns-then-self-2 g c =
+pub returns-then-self-2-clause-outcome : goal.returns-then-self-2-clause-outcome
+returns-then-self-2-clause-outcome g c =
     let k = c.args.self.now.core in
     let list = g.S.Source.meaning c.args.source.now c.args.waypoint in
     let l = length_ladder k.stations.now k.extents k.rungs in
-    record { outcome = λ s. (s, adding_refused (book k) list 4 (add_full (book k) list c.if-self.false (omega (arith, l, c.if-self-2.true)))); same = refl }
+    λ s. (s, adding_refused (book k) list 4 (add_full (book k) list c.if-self.false (omega (arith, l, c.if-self-2.true))))
 
-pub returns-then-n-eq0 : goal.returns-then-n-eq0
-returns-then-n-eq0 g c =
+pub returns-then-n-eq0-clause-outcome : goal.returns-then-n-eq0-clause-outcome
+returns-then-n-eq0-clause-outcome g c =
     let k = c.args.self.now.core in
     let list = g.S.Source.meaning c.args.source.now c.args.waypoint in
     let l = length_ladder k.stations.now k.extents k.rungs in
-    record { outcome = λ s. (s, adding_refused (book k) list 5 (add_none (book k) list c.if-self.false (omega (arith, l, c.if-self-2.false)) (sym c.count-n.ensures.value ∙ c.if-n-eq0.true))); same = c.count-n.ensures.same }
+    λ s. (s, adding_refused (book k) list 5 (add_none (book k) list c.if-self.false (omega (arith, l, c.if-self-2.false)) (sym c.count-n.ensures.value ∙ c.if-n-eq0.true)))
 
-pub returns-then-n-gt16 : goal.returns-then-n-gt16
-returns-then-n-gt16 g c =
+pub returns-then-n-gt16-clause-outcome : goal.returns-then-n-gt16-clause-outcome
+returns-then-n-gt16-clause-outcome g c =
     let k = c.args.self.now.core in
     let list = g.S.Source.meaning c.args.source.now c.args.waypoint in
     let l = length_ladder k.stations.now k.extents k.rungs in
-    record { outcome = λ s. (s, adding_refused (book k) list 6 (add_many (book k) list c.if-self.false (omega (arith, l, c.if-self-2.false)) (omega (arith, c.count-n.ensures.value, c.if-n-gt16.true)))); same = c.count-n.ensures.same }
+    λ s. (s, adding_refused (book k) list 6 (add_many (book k) list c.if-self.false (omega (arith, l, c.if-self-2.false)) (omega (arith, c.count-n.ensures.value, c.if-n-gt16.true))))
 
-pub returns : goal.returns
-returns g c =
+pub returns-clause-outcome : goal.returns-clause-outcome
+returns-clause-outcome g c =
     let k = c.args.self.now.core in
     let m = c.append_from.new.self in
     let rules = g.C.Cost.rules in
@@ -48,12 +42,9 @@ returns g c =
     let some : 0 < length list = omega (arith, n, c.if-n-eq0.false) in
     let few : length list ≤ 16 = omega (arith, n, c.if-n-gt16.false) in
     let grown : c.append_from.result ≡ length (book k).rungs + 1 = omega (arith, l, c.append_from.ensures.count.0) in
-    record {
-      outcome = λ s.
-          let f = c.append_from.ensures.effect (omega (arith, some, ap length same_list)) (filled_of rules k m list c.append_from.ensures.grown s c.if-self.false) in
-          let after : book m ≡ with_rung (book k) list = add_book rules k m list c.append_from.ensures.grown (f.1 ∙ ap (λ ps. ps ∷ ladder (tables_of rules k) k.rungs) same_list) in (
-            add_sound rules k m list c.append_from.ensures.grown s c.if-self.false f.0,
-            (λ i. record { answer = counted (grown i); output = []; book = after i }) ∙ adding_done (book k) list (length (book k).rungs + 1) (add_done (book k) list c.if-self.false (omega (arith, l, c.if-self-2.false)) some few),
-          );
-      same = c.append_from.ensures.same ∙ c.count-n.ensures.same;
-    }
+    λ s.
+    let f = c.append_from.ensures.effect (omega (arith, some, ap length same_list)) (filled_of rules k m list c.append_from.ensures.grown s c.if-self.false) in
+    let after : book m ≡ with_rung (book k) list = add_book rules k m list c.append_from.ensures.grown (f.1 ∙ ap (λ ps. ps ∷ ladder (tables_of rules k) k.rungs) same_list) in (
+      add_sound rules k m list c.append_from.ensures.grown s c.if-self.false f.0,
+      (λ i. record { answer = counted (grown i); output = []; book = after i }) ∙ adding_done (book k) list (length (book k).rungs + 1) (add_done (book k) list c.if-self.false (omega (arith, l, c.if-self-2.false)) some few),
+    )

@@ -6,8 +6,18 @@ use Rattle.enumeration.specs.declared.records.Station.{Station}
 use Rattle.enumeration.specs.Taking.{BestBelow}
 use Rattle.resolver.specs.Tables.{tables_of, station_at}
 use Rattle.resolver.specs.Sound.{taken_at, plainly}
-use Rattle.resolver.proofs.Best.{last_low, low_number, begins, stays, changes}
+use Rattle.resolver.proofs.Best.{last_low, low_number, passes, begins, stays, changes}
 use Rattle.resolver.proofs.tables.Core.better.Goals as goal
+
+pub returns-then-taken_at-s : goal.returns-then-taken_at-s
+returns-then-taken_at-s g c = λ n h nv best.
+    let k = c.args.self.now in
+    let v = c.args.v.0 in
+    let r = c.args.r in
+    let rules = g.C.Cost.rules in
+    let v16 = low_number rules g.met.C.Cost.lawful k r n h v nv in
+    let found = ap (λ (s : Station). s.found) (c.station-s.ensures v16) in
+    passes rules g.met.C.Cost.lawful k r n h v (plainly c.args.best) (omega (arith, c.if-taken_at-s.true, c.taken_at.ensures v16, found)) best
 
 pub returns-in_default : goal.returns-in_default
 returns-in_default g c = λ n h nv best.
