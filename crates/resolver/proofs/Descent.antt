@@ -21,15 +21,6 @@ module _ {C : Type 0} (w : ℕ) (t : Tables C) where
   backed_readable r zero u b h n = tt
   backed_readable r (suc p) u b h n = λ pends. (b.last (suc p) u h n pends, omega (arith, b.back p u h n pends, b.few p (omega (arith, h))))
 
-  pub path_starts : (r : ℕ) (v : PoseNumber) (path : List PoseNumber) → r < length path → v.0 < t.size r → PathDown t r v (set path r v) r
-  path_starts r v path h n =
-      let top : path_at (set path r v) r ≡ v = get_or-set_same path r v (record { 0 = 0 }) h in
-      record {
-        top = top;
-        numbered = λ j low high. let e : r ≡ j = omega (arith, low, high) in subst (λ i. (path_at (set path r v) i).0 < t.size i) e (subst (λ (u : PoseNumber). u.0 < t.size r) (sym top) n);
-        steps = λ j low high. absurd (let no_way : ⊥ = omega (arith, low, high) in no_way);
-      }
-
   pub path_goes_down : (r : ℕ) (v : PoseNumber) (path : List PoseNumber) (p : ℕ) (u : PoseNumber) → r < length path → Backed w t r → suc p ≤ r → Some u ≡ needed_at t (suc p) (path_at path (suc p)).0 → PathDown t r v path (suc p) → PathDown t r v (set path p u) p
   path_goes_down r v path p u h b below e d =
       let new = set path p u in

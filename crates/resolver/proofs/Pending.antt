@@ -22,9 +22,6 @@ module _ {C : Type 0} (t : Tables C) where
   pending_none zero v e = refl
   pending_none (suc p) v e = sym (cond-false (t.station (suc p) v).pending _ _ e)
 
-  pub pending_some : (p v : ℕ) → (t.station (suc p) v).pending ≡ true → Some (t.track (suc p) (t.station (suc p) v).last.0) ≡ pending_at t (suc p) v
-  pending_some p v e = sym (cond-true (t.station (suc p) v).pending _ _ e)
-
   -- what is pending is the last rank
   pub pending_is : (p v : ℕ) (e : Ranked C) → Some e ≡ pending_at t (suc p) v → ((t.station (suc p) v).pending ≡ true) × (e ≡ t.track (suc p) (t.station (suc p) v).last.0)
   pending_is p v e = go (t.station (suc p) v).pending

@@ -5,9 +5,9 @@ use Rattle.ladder.specs.declared.poses.Step.{Step}
 use Rattle.ladder.specs.Rules.{Rules, Lawful}
 use Rattle.ladder.specs.Tracks.{steps}
 use Rattle.ladder.specs.Listed.{tracks_of}
-use Rattle.book.specs.Book.{Outcome, Filter, given, refused, nexting, seeking}
+use Rattle.book.specs.Book.{Outcome, Filter, given, nexting, seeking}
 use Rattle.book.proofs.Asking.{all_long}
-use Rattle.book.proofs.Seeking.{seek_refused, seek_goes_on}
+use Rattle.book.proofs.Seeking.{seek_goes_on}
 use Rattle.resolver.specs.declared.tables.Core.{Core}
 use Rattle.resolver.specs.Standing.{book}
 use Rattle.resolver.proofs.Bounded.{bounded}
@@ -21,10 +21,6 @@ judged_so p q r n m out e same is = sym (e ∙ ap (λ (x : Filter). x (take (n -
 module _ {C P : Type 0} (c : Rules C P) (laws : Lawful c) (k m : Core C) (f : Filter) (out after : List Step) where
   many : length (book k).rungs ≡ k.rungs
   many = length_ladder k.stations.now k.extents k.rungs
-
-  -- it was refused
-  pub sought_refused : (q : ℕ) → record { answer = refused q; output = after; book = book m } ≡ nexting c (book k) out → record { answer = refused q; output = after; book = book m } ≡ seeking c (book k) f out
-  sought_refused q e = e ∙ sym (seek_refused c (book k) (tracks_of c k.limits (book k).rungs) out f q (sym (ap (λ (o : Outcome C). o.answer) e)))
 
   goes_on : (n : ℕ) (v : C) → record { answer = given n v; output = after; book = book m } ≡ nexting c (book k) out → seeking c (book k) f out ≡ cond (f (take k.rungs after)) (record { answer = given n v; output = after; book = book m }) (seeking c (book m) f after)
   goes_on n v e =
