@@ -1,11 +1,11 @@
 -- Going down the rungs to the one where the search can begin. Assumes nothing.
 use Rattle.std.proofs.Common.{◌≡◌, ℕ, zero, suc, ◌<◌, ◌≤◌, Bool, true, false, cond, List, length, set, Some, None, sym, refl, ap, ◌∙◌, subst, ⊎_elim, arith, get_or-set_other, get_or-set_same}
 use Rattle.std.proofs.lemmas.Bool.{cases_eq}
+use Rattle.std.proofs.lemmas.Option.{none-some}
 use Rattle.ladder.specs.declared.poses.PoseNumber.{PoseNumber}
 use Rattle.enumeration.specs.Tables.{Tables}
 use Rattle.enumeration.specs.Sound.{last_back}
 use Rattle.enumeration.specs.Writes.{Readable, Backed, PathDown, path_at, needed_at, successor_found}
-use Rattle.resolver.proofs.Pending.{never}
 
 module _ {C : Type 0} (w : ℕ) (t : Tables C) where
   -- a pose that is waited for is the one that the pending track extends
@@ -13,9 +13,9 @@ module _ {C : Type 0} (w : ℕ) (t : Tables C) where
   needed_is p v u = go (t.station (suc p) v).pending (successor_found t p v)
     where
       go : (b f : Bool) → Some u ≡ cond b (cond f None (Some (last_back t (suc p) v).pose)) None → (b ≡ true) × (u ≡ (last_back t (suc p) v).pose)
-      go true true h = never u (sym h)
+      go true true h = absurd (none-some u (sym h))
       go true false h = (refl, cc)
-      go false f h = never u (sym h)
+      go false f h = absurd (none-some u (sym h))
 
   pub backed_readable : (r q u : ℕ) → Backed w t r → q ≤ r → u < t.size q → Readable w t q u
   backed_readable r zero u b h n = tt

@@ -1,4 +1,3 @@
-pub mod Copies
 pub mod Rungs
 mod Bounded
 mod Slices

@@ -1,6 +1,7 @@
 -- The successor that has yet to be entered at a pose, and what is done with it. Assumes nothing.
 use Rattle.std.proofs.Common.{◌≡◌, ℕ, zero, suc, ◌+◌, ◌-◌, ◌<◌, ◌≤◌, Bool, true, false, cond, ltb, Some, None, MatchBool, Option, sym, refl, ap, ◌∙◌, subst, arith, MatchOption}
 use Rattle.std.proofs.lemmas.Bool.{cond-true, cond-false}
+use Rattle.std.proofs.lemmas.Option.{none-some}
 use Rattle.ladder.specs.declared.poses.Limits.{Limits}
 use Rattle.ladder.specs.Rules.{Rules}
 use Rattle.enumeration.specs.declared.records.Station.{Station}
@@ -13,10 +14,6 @@ use Rattle.enumeration.specs.Advancing.{EntersPending}
 use Rattle.enumeration.specs.Writes.{OneMore, Readable, Steady, Advanced, candidate_at, pending_at, successor_found, needed_at}
 use Rattle.resolver.proofs.Entering.{unchanged}
 
--- nothing is something
-pub never : {X Y : Type 0} (x : X) → None ≡ Some x → Y
-never x e = let z : ◌≡◌ {A = ℕ} 0 1 = cc in absurd (let no_way : ⊥ = omega arith in no_way)
-
 module _ {C : Type 0} (t : Tables C) where
   pub pending_none : (r v : ℕ) → (t.station r v).pending ≡ false → None ≡ pending_at t r v
   pending_none zero v e = refl
@@ -28,7 +25,7 @@ module _ {C : Type 0} (t : Tables C) where
     where
       go : (b : Bool) → Some e ≡ cond b (Some (t.track (suc p) (t.station (suc p) v).last.0)) None → (b ≡ true) × (e ≡ t.track (suc p) (t.station (suc p) v).last.0)
       go true h = (refl, cc)
-      go false h = never e (sym h)
+      go false h = absurd (none-some e (sym h))
 
   -- whether its successor is found
   pub successor_read : (p v : ℕ) (e : Ranked C) (b : Bool) → e ≡ t.track (suc p) (t.station (suc p) v).last.0 → b ≡ ltb (e.back.rank.0 + 1) (t.station p e.back.pose.0).found → b ≡ successor_found t p v
@@ -39,7 +36,7 @@ module _ {C : Type 0} (t : Tables C) where
   needed_none (suc p) v h = go (t.station (suc p) v).pending h
     where
       go : (b : Bool) → None ≡ cond b (Some (t.track (suc p) (t.station (suc p) v).last.0)) None → None ≡ cond b (cond (successor_found t p v) None (Some (last_back t (suc p) v).pose)) None
-      go true h = never (t.track (suc p) (t.station (suc p) v).last.0) h
+      go true h = absurd (none-some (t.track (suc p) (t.station (suc p) v).last.0) h)
       go false h = refl
 
   -- the pose that the pending track extends has a number
@@ -62,7 +59,7 @@ module _ {C P : Type 0} (c : Rules C P) (l : Limits) (w : ℕ) (t : Tables C) wh
   advanced_none (suc p) v h = go (t.station (suc p) v).pending h
     where
       go : (b : Bool) → None ≡ cond b (Some (t.track (suc p) (t.station (suc p) v).last.0)) None → MatchBool b ((a : Tables C) × EntersPending c l w t a p v × Draws c w a t (suc p) v) (Unchanged w t t)
-      go true h = never (t.track (suc p) (t.station (suc p) v).last.0) h
+      go true h = absurd (none-some (t.track (suc p) (t.station (suc p) v).last.0) h)
       go false h = unchanged w t
 
   pub advanced_some : (a m : Tables C) (p v : ℕ) → (t.station (suc p) v).pending ≡ true → EntersPending c l w t a p v → Draws c w a m (suc p) v → Advanced c l w t m (suc p) v

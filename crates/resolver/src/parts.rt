@@ -1,4 +1,5 @@
-// A heap that lies in a part of a table.
+// A heap that lies in a part of a table. It is made over that part in a function of its own: with the heap made where the part is taken the proof
+// that the rest of the table stays did not close.
 ghost use Rattle.std.specs.Prelude.{◌≡◌, ◌+◌, ◌-◌, ◌<◌, ◌≤◌, length, take, drop, MatchOption};
 ghost use Rattle.std.specs.List.{between};
 ghost use Rattle.heap.specs.Order.{Pushed, Popped};

@@ -4,7 +4,7 @@ use Rattle.enumeration.specs.Tables.{ladder}
 use Rattle.resolver.specs.Tables.{tables_of}
 use Rattle.book.proofs.Replies.{add_full, add_none, add_many, add_done, adding_refused, adding_done}
 use Rattle.resolver.specs.Standing.{book}
-use Rattle.resolver.proofs.Rungs.{length_ladder}
+use Rattle.resolver.proofs.Rungs.{many}
 use Rattle.resolver.proofs.Books.{add_book, add_sound, filled_of}
 use Rattle.resolver.proofs.held.Resolver.add.Goals as goal
 
@@ -12,21 +12,21 @@ pub returns-then-self-2-clause-outcome : goal.returns-then-self-2-clause-outcome
 returns-then-self-2-clause-outcome g c =
     let k = c.args.self.now.core in
     let list = g.S.Source.meaning c.args.source.now c.args.waypoint in
-    let l = length_ladder k.stations.now k.extents k.rungs in
+    let l = many k in
     λ s. (s, adding_refused (book k) list 4 (add_full (book k) list c.if-self.false (omega (arith, l, c.if-self-2.true))))
 
 pub returns-then-n-eq0-clause-outcome : goal.returns-then-n-eq0-clause-outcome
 returns-then-n-eq0-clause-outcome g c =
     let k = c.args.self.now.core in
     let list = g.S.Source.meaning c.args.source.now c.args.waypoint in
-    let l = length_ladder k.stations.now k.extents k.rungs in
+    let l = many k in
     λ s. (s, adding_refused (book k) list 5 (add_none (book k) list c.if-self.false (omega (arith, l, c.if-self-2.false)) (sym c.count-n.ensures.value ∙ c.if-n-eq0.true)))
 
 pub returns-then-n-gt16-clause-outcome : goal.returns-then-n-gt16-clause-outcome
 returns-then-n-gt16-clause-outcome g c =
     let k = c.args.self.now.core in
     let list = g.S.Source.meaning c.args.source.now c.args.waypoint in
-    let l = length_ladder k.stations.now k.extents k.rungs in
+    let l = many k in
     λ s. (s, adding_refused (book k) list 6 (add_many (book k) list c.if-self.false (omega (arith, l, c.if-self-2.false)) (omega (arith, c.count-n.ensures.value, c.if-n-gt16.true))))
 
 pub returns-clause-outcome : goal.returns-clause-outcome
@@ -37,7 +37,7 @@ returns-clause-outcome g c =
     let source = c.count-n.new.self in
     let list = g.S.Source.meaning c.args.source.now c.args.waypoint in
     let same_list : g.S.Source.meaning source c.args.waypoint ≡ list = ap (λ f. f c.args.waypoint) c.count-n.ensures.same in
-    let l = length_ladder k.stations.now k.extents k.rungs in
+    let l = many k in
     let n = c.count-n.ensures.value in
     let some : 0 < length list = omega (arith, n, c.if-n-eq0.false) in
     let few : length list ≤ 16 = omega (arith, n, c.if-n-gt16.false) in
