@@ -54,6 +54,7 @@ impl<'t, C: Cost> Core<'t, C> {
         ensures { IsBest C.Cost.rules self.now r result }
     {
         let mut best = None;
+        // tried as a fold: the proof did not close, since what the closure's calls gave could not be read there
         for v in 0..self.extents[r].poses {
             best = self.better(r, best, PoseNumber(v));
         }
