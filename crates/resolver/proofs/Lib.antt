@@ -4,7 +4,6 @@ mod Slices
 mod Blocks
 mod Appending
 mod Heaps
-mod Entering
 mod Drawing
 mod Pending
 mod Descent

@@ -1,4 +1,4 @@
-use Rattle.std.proofs.Common.{◌≡◌, ℕ, ◌+◌, ◌-◌, ◌*◌, false, List, take, drop, Some, None, sym, ap, ◌∙◌, subst, arith}
+use Rattle.std.proofs.Common.{◌≡◌, ℕ, ◌+◌, ◌-◌, ◌*◌, false, List, Some, None, sym, ap, ◌∙◌, arith}
 use Rattle.std.specs.List.{between}
 use Rattle.enumeration.specs.declared.records.Candidate.{Candidate}
 use Rattle.enumeration.specs.declared.records.Station.{Station}
@@ -32,14 +32,12 @@ returns-in-Some-clause-effect g c =
     let same = c.station-s.ensures few in
     let part : (l : List (Candidate g.row.C.Denot)) → between (16 * c.station_place-i.result) (16 * c.station_place-i.result + 16) l ≡ between (16 * (16 * r + v)) (16 * (16 * r + v) + 16) l = λ l. ap (λ j. between (16 * j) (16 * j + 16) l) i in
     let held : c.min-n.result ≡ S.waiting = omega (arith, c.min-n.ensures, ap (λ t. t.waiting) same, all) in
-    let below = subst (λ j. take (16 * j) ys ≡ take (16 * j) xs) i e.below in
-    let above = subst (λ j. drop (16 * j + 16) ys ≡ drop (16 * j + 16) xs) i e.above in
     let less : c.saturating_sub.result ≡ S.waiting - 1 = omega (arith, c.saturating_sub.ensures, held) in
     let is = drained_read s S c.saturating_sub.result same less in
     let sl : ℕ → ℕ → List (Candidate g.row.C.Denot) = λ q u. between (16 * (16 * q + u)) (16 * (16 * q + u) + 16) ys in (
       Some x,
       draws rules (width k) (tables_of rules k) (tables_of rules m) r v few sl _ is x
-          (λ q u h ne. parts_elsewhere xs ys q u r v h few ne below above)
+          (λ q u h ne. parts_elsewhere xs ys q u r v c.station_place-i.result i h few ne e.below e.above)
           (λ z. popped_at (ReachedBoth rules) (earlier rules) x (part xs) held (part ys ∙ sym z) (ap (λ n. n - 1) held) e.inside)
           (c.append.ensures.effect few (fits rules (width k) (tables_of rules k) (tables_of rules m) r v few sl _ is more)),
     )

@@ -1,4 +1,4 @@
-use Rattle.std.proofs.Common.{◌≡◌, ◌+◌, ◌*◌, List, take, drop, sym, ap, ◌∙◌, subst, arith}
+use Rattle.std.proofs.Common.{◌≡◌, ◌+◌, ◌*◌, List, sym, ap, ◌∙◌, arith}
 use Rattle.std.specs.List.{between}
 use Rattle.enumeration.specs.declared.records.Candidate.{Candidate}
 use Rattle.enumeration.specs.declared.records.Station.{Station}
@@ -26,13 +26,11 @@ returns-clause-effect g c =
     let p = c.put_station.ensures.effect few in
     let part : (l : List (Candidate g.row.C.Denot)) → between (16 * c.station_place-i.result) (16 * c.station_place-i.result + 16) l ≡ between (16 * (16 * r + v)) (16 * (16 * r + v) + 16) l = λ l. ap (λ j. between (16 * j) (16 * j + 16) l) i in
     let some : c.min-n.result ≡ S.waiting = omega (arith, c.min-n.ensures, ap (λ t. t.waiting) s, room) in
-    let below = subst (λ j. take (16 * j) ys ≡ take (16 * j) xs) i e.below in
-    let above = subst (λ j. drop (16 * j + 16) ys ≡ drop (16 * j + 16) xs) i e.above in
     record {
       elsewhere = record {
         sizes = p.elsewhere.sizes;
         stations = p.elsewhere.stations;
-        slots = λ q u h ne. p.elsewhere.slots q u h ne ∙ parts_elsewhere xs ys q u r v h few ne below above;
+        slots = λ q u h ne. p.elsewhere.slots q u h ne ∙ parts_elsewhere xs ys q u r v c.station_place-i.result i h few ne e.below e.above;
         tracks = p.elsewhere.tracks;
         used = p.elsewhere.used;
       };
