@@ -1,11 +1,12 @@
 -- The best of what the poses of the last rung offer. Assumes nothing.
-use Rattle.std.proofs.Common.{◌≡◌, ℕ, zero, suc, ◌<◌, ◌≤◌, true, false, Some, None, Option, refl, arith}
+use Rattle.std.proofs.Common.{◌≡◌, ℕ, zero, suc, ◌<◌, ◌≤◌, Bool, true, false, Some, None, MatchBool, Option, Ordering, sym, refl, ap, ◌∙◌, arith}
 use Rattle.std.specs.Ordering.{is_lt}
 use Rattle.ladder.specs.Rules.{Rules, Lawful}
+use Rattle.enumeration.specs.declared.records.Station.{Station}
 use Rattle.enumeration.specs.Taking.{Offers, BestBelow, last_cost}
 use Rattle.enumeration.proofs.Taking.{best_passes, best_begins, best_stays, best_changes}
 use Rattle.resolver.specs.declared.tables.Core.{Core}
-use Rattle.resolver.specs.Tables.{tables_of, width}
+use Rattle.resolver.specs.Tables.{tables_of, width, station_at}
 use Rattle.resolver.specs.Sound.{AtRest, taken_at}
 use Rattle.resolver.proofs.Bounded.{bounded}
 
@@ -30,8 +31,22 @@ module _ {C P : Type 0} (c : Rules C P) (laws : Lawful c) (k : Core C) (r n : �
   pub begins : (v : ℕ) → v < (tables_of c k).size r → taken_at k v < ((tables_of c k).station r v).found → Best v None → Best (suc v) (Some v)
   begins v nv lt = best_begins c laws k.limits (bounded k) (tables_of c k) r h.short h.rung (taken_at k) n h.heads v (record { numbered = nv; some = lt })
 
-  pub stays : (v w : ℕ) → v < (tables_of c k).size r → taken_at k v < ((tables_of c k).station r v).found → is_lt (c.compare (last_cost c k.limits (tables_of c k) r (taken_at k) v) (last_cost c k.limits (tables_of c k) r (taken_at k) w)) ≡ false → Best v (Some w) → Best (suc v) (Some w)
-  stays v w nv lt = best_stays c laws k.limits (bounded k) (tables_of c k) r h.short h.rung (taken_at k) n h.heads v w (record { numbered = nv; some = lt })
+  -- station s, of which m ranks are taken, is that of pose v, and the costs a and b are those of what v and w offer: t tells whether v's is lower
+  pub compared : (v w : ℕ) (s : Station) (m : ℕ) (a b : C) (o : Ordering) (t : Bool) → v < (tables_of c k).size r → Best v (Some w) → (v < 16 → m ≡ taken_at k v) → (v < 16 → s ≡ station_at k r v) → m < s.found → (v < 16 → (station_at k r v).last.0 < width k → a ≡ last_cost c k.limits (tables_of c k) r (taken_at k) v) → (w < 16 → (station_at k r w).last.0 < width k → b ≡ last_cost c k.limits (tables_of c k) r (taken_at k) w) → o ≡ c.compare a b → t ≡ is_lt o → MatchBool t (Best (suc v) (Some v)) (Best (suc v) (Some w))
+  compared v w s m a b o t nv best taken station lt cost least tells test = by t (sym (test ∙ ap is_lt (tells ∙ ap (λ z. c.compare z b) a_is ∙ ap (λ z. c.compare (last v) z) b_is)))
+    where
+      last : ℕ → C
+      last = last_cost c k.limits (tables_of c k) r (taken_at k)
 
-  pub changes : (v w : ℕ) → v < (tables_of c k).size r → taken_at k v < ((tables_of c k).station r v).found → is_lt (c.compare (last_cost c k.limits (tables_of c k) r (taken_at k) v) (last_cost c k.limits (tables_of c k) r (taken_at k) w)) ≡ true → Best v (Some w) → Best (suc v) (Some v)
-  changes v w nv lt = best_changes c laws k.limits (bounded k) (tables_of c k) r h.short h.rung (taken_at k) n h.heads v w (record { numbered = nv; some = lt })
+      offers : Offers c k.limits (tables_of c k) r (taken_at k) v
+      offers = record { numbered = nv; some = omega (arith, lt, taken (low_number v nv), ap (λ (z : Station). z.found) (station (low_number v nv))) }
+
+      a_is : a ≡ last v
+      a_is = cost (low_number v nv) (last_low v offers)
+
+      b_is : b ≡ last w
+      b_is = least (low_number w best.1.numbered) (last_low w best.1)
+
+      by : (u : Bool) → is_lt (c.compare (last v) (last w)) ≡ u → MatchBool u (Best (suc v) (Some v)) (Best (suc v) (Some w))
+      by true e = best_changes c laws k.limits (bounded k) (tables_of c k) r h.short h.rung (taken_at k) n h.heads v w offers e best
+      by false e = best_stays c laws k.limits (bounded k) (tables_of c k) r h.short h.rung (taken_at k) n h.heads v w offers e best

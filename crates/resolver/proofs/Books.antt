@@ -25,6 +25,7 @@ use Rattle.resolver.specs.Standing.{poses_in, ladder_in, book}
 use Rattle.resolver.specs.Adding.{AddsRung, GrownByARung}
 use Rattle.resolver.specs.Sound.{Sound, HeadsSound, taken_at, plainly, due, SetupKept, Gives, Ends, ladder_of, list_of}
 use Rattle.resolver.proofs.Bounded.{bounded}
+use Rattle.resolver.proofs.Rungs.{many}
 
 -- the ladder of the tables is that of the book
 pub ladder_is : {C P : Type 0} (c : Rules C P) (k : Core C) (n : ℕ) → ladder_in k.stations.now k.extents n ≡ ladder (tables_of c k) n
@@ -45,14 +46,11 @@ module _ {C P : Type 0} (c : Rules C P) (laws : Lawful c) (k m : Core C) (kept :
       let rs : (book m).rungs ≡ (book k).rungs = ladder_is c m m.rungs ∙ lad ∙ rungs_are in
       λ i. record { limits = kept.limits i; rung_limit = kept.rung_limit i; ration = kept.ration i; rungs = rs i; closed = kept.closed i; taken = t i }
 
-  length_rungs : length (book k).rungs ≡ k.rungs
-  length_rungs = ap length (sym rungs_are) ∙ length_ladder (tables_of c k) k.rungs
-
   -- the list is at its end
   next_none : k.closed ≡ true → k.rungs ≤ length out → k.taken < k.ration → ladder_of c m ≡ ladder_of c k → Ends c k out after m.taken → record { answer = refused 10; output = after; book = book m } ≡ nexting c (book k) out
   next_none o h r lad e =
       (λ i. record { answer = refused 10; output = e.output i; book = book_after k.taken lad e.counts i })
-      ∙ nexting_refused c (book k) (tracks_of c k.limits (book k).rungs) out 10 (next_ended c (book k) (tracks_of c k.limits (book k).rungs) out o (omega (arith, h, length_rungs)) r (omega (arith, e.all, ap length list_is)))
+      ∙ nexting_refused c (book k) (tracks_of c k.limits (book k).rungs) out 10 (next_ended c (book k) (tracks_of c k.limits (book k).rungs) out o (omega (arith, h, many k)) r (omega (arith, e.all, ap length list_is)))
 
   -- the track that is given has as many steps as there are rungs
   steps_long : k.taken < length (list_of c k) → length (steps (ladder_of c k) (get_or (list_of c k) k.taken [])) ≡ k.rungs
@@ -70,7 +68,7 @@ module _ {C P : Type 0} (c : Rules C P) (laws : Lawful c) (k m : Core C) (kept :
       let written_is : after ≡ written (steps (book k).rungs (get_or ts k.taken [])) out =
       g.output ∙ ap (λ n. steps (ladder_of c k) (get_or (list_of c k) k.taken []) ++ drop n out) (sym (steps_long g.exists)) ∙ ap (λ ss. written ss out) same in
       (λ i. record { answer = given (g.number i) (value i); output = written_is i; book = book_after (k.taken + 1) lad g.counts i })
-      ∙ nexting_given c (book k) ts out (k.taken + 1) (cost c (book k).rungs (get_or ts k.taken [])) (next_found c (book k) ts out o (omega (arith, h, length_rungs)) r there)
+      ∙ nexting_given c (book k) ts out (k.taken + 1) (cost c (book k).rungs (get_or ts k.taken [])) (next_found c (book k) ts out o (omega (arith, h, many k)) r there)
 
   -- either
   pub next_done : (o : Option (Taken C)) → k.closed ≡ true → k.rungs ≤ length out → k.taken < k.ration → ladder_of c m ≡ ladder_of c k → MatchOption o (Ends c k out after m.taken) (λ x. Gives c k out after m.taken x) → record { answer = track_answer (ok_or o NoTrackLeft); output = after; book = book m } ≡ nexting c (book k) out

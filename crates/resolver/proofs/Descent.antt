@@ -1,11 +1,11 @@
 -- Going down the rungs to the one where the search can begin. Assumes nothing.
 use Rattle.std.proofs.Common.{◌≡◌, ℕ, zero, suc, ◌<◌, ◌≤◌, Bool, true, false, cond, List, length, set, Some, None, sym, refl, ap, ◌∙◌, subst, ⊎_elim, arith, get_or-set_other, get_or-set_same}
 use Rattle.std.proofs.lemmas.Bool.{cases_eq}
+use Rattle.std.proofs.lemmas.Option.{none-some}
 use Rattle.ladder.specs.declared.poses.PoseNumber.{PoseNumber}
 use Rattle.enumeration.specs.Tables.{Tables}
 use Rattle.enumeration.specs.Sound.{last_back}
 use Rattle.enumeration.specs.Writes.{Readable, Backed, PathDown, path_at, needed_at, successor_found}
-use Rattle.resolver.proofs.Pending.{never}
 
 module _ {C : Type 0} (w : ℕ) (t : Tables C) where
   -- a pose that is waited for is the one that the pending track extends
@@ -13,22 +13,13 @@ module _ {C : Type 0} (w : ℕ) (t : Tables C) where
   needed_is p v u = go (t.station (suc p) v).pending (successor_found t p v)
     where
       go : (b f : Bool) → Some u ≡ cond b (cond f None (Some (last_back t (suc p) v).pose)) None → (b ≡ true) × (u ≡ (last_back t (suc p) v).pose)
-      go true true h = never u (sym h)
+      go true true h = absurd (none-some u (sym h))
       go true false h = (refl, cc)
-      go false f h = never u (sym h)
+      go false f h = absurd (none-some u (sym h))
 
   pub backed_readable : (r q u : ℕ) → Backed w t r → q ≤ r → u < t.size q → Readable w t q u
   backed_readable r zero u b h n = tt
   backed_readable r (suc p) u b h n = λ pends. (b.last (suc p) u h n pends, omega (arith, b.back p u h n pends, b.few p (omega (arith, h))))
-
-  pub path_starts : (r : ℕ) (v : PoseNumber) (path : List PoseNumber) → r < length path → v.0 < t.size r → PathDown t r v (set path r v) r
-  path_starts r v path h n =
-      let top : path_at (set path r v) r ≡ v = get_or-set_same path r v (record { 0 = 0 }) h in
-      record {
-        top = top;
-        numbered = λ j low high. let e : r ≡ j = omega (arith, low, high) in subst (λ i. (path_at (set path r v) i).0 < t.size i) e (subst (λ (u : PoseNumber). u.0 < t.size r) (sym top) n);
-        steps = λ j low high. absurd (let no_way : ⊥ = omega (arith, low, high) in no_way);
-      }
 
   pub path_goes_down : (r : ℕ) (v : PoseNumber) (path : List PoseNumber) (p : ℕ) (u : PoseNumber) → r < length path → Backed w t r → suc p ≤ r → Some u ≡ needed_at t (suc p) (path_at path (suc p)).0 → PathDown t r v path (suc p) → PathDown t r v (set path p u) p
   path_goes_down r v path p u h b below e d =

@@ -8,7 +8,7 @@ use Rattle.enumeration.specs.Writes.{Readable, Advanceable, Advanced, PathDown, 
 use Rattle.enumeration.specs.Taking.{LookedFor}
 use Rattle.enumeration.proofs.Frames.{ladder_same}
 use Rattle.enumeration.proofs.Advancing.{advances}
-use Rattle.enumeration.proofs.Climbing.{Climb, Wants, climb_begins, climbs, readable_at, advanceable_at, none_needed, some_needed}
+use Rattle.enumeration.proofs.Climbing.{Climb, Wants, climbs, readable_at, advanceable_at, some_needed}
 use Rattle.resolver.specs.declared.tables.Core.{Core}
 use Rattle.resolver.specs.Kept.{Same}
 use Rattle.resolver.specs.Tables.{tables_of, width}
@@ -43,16 +43,6 @@ module _ {C P : Type 0} (c : Rules C P) (laws : Lawful c) where
 
     chain : (j : ℕ) → low ≤ j → j < r → Wants c laws k.limits (bounded k) (width k) n h.few t₀ j (path_at path (suc j)).0 (path_at path j).0
     chain j lo hi = some_needed c laws k.limits (bounded k) (width k) n h.few t₀ h.sound within j (path_at path (suc j)).0 (path_at path j) (omega (arith, h.inside)) (h.down.numbered (suc j) (omega arith) hi) (h.down.steps j lo hi)
-
-    start : Climb c laws k.limits (bounded k) (width k) n h.few t₀ t₀ (λ j. (path_at path j).0) r low
-    start =
-        climb_begins c laws k.limits (bounded k) (width k) n h.few (advances c laws) t₀ h.sound h.roomy.blocks (λ j. (path_at path j).0) low r h.inside h.down.numbered chain
-        h.below
-        (none_needed c laws k.limits (bounded k) (width k) n h.few t₀ low (path_at path low).0 h.ready)
-
-  -- the search begins where nothing has to be found on the rung before
-  pub climb_starts : (k : Core C) (r : ℕ) (path : List PoseNumber) (low : ℕ) → Climbs k k r path low low
-  climb_starts k r path low n h = start k r path low n h
 
   -- what advancing a pose does, by the limits and the width at entry
   advances_as : (k m a : Core C) → Same k m → (r v : ℕ) → AdvancesPose c m a r v → v < 16 → Readable (width k) (tables_of c m) r v → Advanceable (width k) (tables_of c m) r v → Advanced c k.limits (width k) (tables_of c m) (tables_of c a) r v

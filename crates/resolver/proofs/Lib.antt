@@ -1,12 +1,10 @@
 pub mod Codes
-pub mod Copies
 pub mod Rungs
 mod Bounded
 mod Slices
 mod Blocks
 mod Appending
 mod Heaps
-mod Entering
 mod Drawing
 mod Pending
 mod Descent

@@ -1,73 +1,34 @@
 -- The successor that has yet to be entered at a pose, and what is done with it. Assumes nothing.
-use Rattle.std.proofs.Common.{◌≡◌, ℕ, zero, suc, ◌+◌, ◌-◌, ◌<◌, ◌≤◌, Bool, true, false, cond, ltb, Some, None, MatchBool, Option, sym, refl, ap, ◌∙◌, subst, arith, MatchOption}
-use Rattle.std.proofs.lemmas.Bool.{cond-true, cond-false}
+use Rattle.std.proofs.Common.{◌≡◌, ℕ, suc, ◌+◌, ◌<◌, ◌≤◌, Bool, true, false, cond, ltb, Some, None, MatchBool, Option, sym, refl, ap, ◌∙◌, subst, arith, MatchOption}
+use Rattle.std.proofs.lemmas.Option.{none-some}
 use Rattle.ladder.specs.declared.poses.Limits.{Limits}
 use Rattle.ladder.specs.Rules.{Rules}
 use Rattle.enumeration.specs.declared.records.Station.{Station}
 use Rattle.enumeration.specs.declared.records.Ranked.{Ranked}
 use Rattle.enumeration.specs.declared.records.Candidate.{Candidate}
 use Rattle.enumeration.specs.Tables.{Tables}
-use Rattle.enumeration.specs.Sound.{last_back}
 use Rattle.enumeration.specs.Changes.{Unchanged, Entered, Enters, Draws}
 use Rattle.enumeration.specs.Advancing.{EntersPending}
-use Rattle.enumeration.specs.Writes.{OneMore, Readable, Steady, Advanced, candidate_at, pending_at, successor_found, needed_at}
-use Rattle.resolver.proofs.Entering.{unchanged}
-
--- nothing is something
-pub never : {X Y : Type 0} (x : X) → None ≡ Some x → Y
-never x e = let z : ◌≡◌ {A = ℕ} 0 1 = cc in absurd (let no_way : ⊥ = omega arith in no_way)
+use Rattle.enumeration.specs.Writes.{OneMore, Readable, Steady, Advanced, candidate_at, pending_at, successor_found}
 
 module _ {C : Type 0} (t : Tables C) where
-  pub pending_none : (r v : ℕ) → (t.station r v).pending ≡ false → None ≡ pending_at t r v
-  pending_none zero v e = refl
-  pending_none (suc p) v e = sym (cond-false (t.station (suc p) v).pending _ _ e)
-
-  pub pending_some : (p v : ℕ) → (t.station (suc p) v).pending ≡ true → Some (t.track (suc p) (t.station (suc p) v).last.0) ≡ pending_at t (suc p) v
-  pending_some p v e = sym (cond-true (t.station (suc p) v).pending _ _ e)
-
   -- what is pending is the last rank
   pub pending_is : (p v : ℕ) (e : Ranked C) → Some e ≡ pending_at t (suc p) v → ((t.station (suc p) v).pending ≡ true) × (e ≡ t.track (suc p) (t.station (suc p) v).last.0)
   pending_is p v e = go (t.station (suc p) v).pending
     where
       go : (b : Bool) → Some e ≡ cond b (Some (t.track (suc p) (t.station (suc p) v).last.0)) None → (b ≡ true) × (e ≡ t.track (suc p) (t.station (suc p) v).last.0)
       go true h = (refl, cc)
-      go false h = never e (sym h)
+      go false h = absurd (none-some e (sym h))
 
   -- whether its successor is found
   pub successor_read : (p v : ℕ) (e : Ranked C) (b : Bool) → e ≡ t.track (suc p) (t.station (suc p) v).last.0 → b ≡ ltb (e.back.rank.0 + 1) (t.station p e.back.pose.0).found → b ≡ successor_found t p v
   successor_read p v e b is h = h ∙ ap (λ (y : Ranked C). ltb (y.back.rank.0 + 1) (t.station p y.back.pose.0).found) is
 
-  pub needed_none : (r v : ℕ) → None ≡ pending_at t r v → None ≡ needed_at t r v
-  needed_none zero v h = refl
-  needed_none (suc p) v h = go (t.station (suc p) v).pending h
-    where
-      go : (b : Bool) → None ≡ cond b (Some (t.track (suc p) (t.station (suc p) v).last.0)) None → None ≡ cond b (cond (successor_found t p v) None (Some (last_back t (suc p) v).pose)) None
-      go true h = never (t.track (suc p) (t.station (suc p) v).last.0) h
-      go false h = refl
-
   -- the pose that the pending track extends has a number
   pub back_posed : (w p v : ℕ) (e : Ranked C) → Readable w t (suc p) v → Some e ≡ pending_at t (suc p) v → e.back.pose.0 < 16
   back_posed w p v e readable h = let is = pending_is p v e h in subst (λ (y : Ranked C). y.back.pose.0 < 16) (sym is.1) (readable is.0).1
 
-  pub needed_some : (w r v : ℕ) (e : Ranked C) (b : Bool) → 0 < r → Readable w t r v → Some e ≡ pending_at t r v → (e.back.pose.0 < 16 → b ≡ ltb (e.back.rank.0 + 1) (t.station (r - 1) e.back.pose.0).found) → cond b None (Some e.back.pose) ≡ needed_at t r v
-  needed_some w zero v e b above readable h f = absurd (let no_way : ⊥ = omega (arith, above) in no_way)
-  needed_some w (suc p) v e b above readable h f =
-      let is = pending_is p v e h in
-      let less : suc p - 1 ≡ p = omega arith in
-      let found = successor_read p v e b is.1 (f (back_posed w p v e readable h) ∙ ap (λ q. ltb (e.back.rank.0 + 1) (t.station q e.back.pose.0).found) less) in
-      ap (λ z. cond z None (Some e.back.pose)) found
-      ∙ ap (λ (y : Ranked C). cond (successor_found t p v) None (Some y.back.pose)) is.1
-      ∙ sym (cond-true (t.station (suc p) v).pending (cond (successor_found t p v) None (Some (last_back t (suc p) v).pose)) None is.0)
-
 module _ {C P : Type 0} (c : Rules C P) (l : Limits) (w : ℕ) (t : Tables C) where
-  pub advanced_none : (r v : ℕ) → None ≡ pending_at t r v → Advanced c l w t t r v
-  advanced_none zero v h = unchanged w t
-  advanced_none (suc p) v h = go (t.station (suc p) v).pending h
-    where
-      go : (b : Bool) → None ≡ cond b (Some (t.track (suc p) (t.station (suc p) v).last.0)) None → MatchBool b ((a : Tables C) × EntersPending c l w t a p v × Draws c w a t (suc p) v) (Unchanged w t t)
-      go true h = never (t.track (suc p) (t.station (suc p) v).last.0) h
-      go false h = unchanged w t
-
   pub advanced_some : (a m : Tables C) (p v : ℕ) → (t.station (suc p) v).pending ≡ true → EntersPending c l w t a p v → Draws c w a m (suc p) v → Advanced c l w t m (suc p) v
   advanced_some a m p v e h d = subst (λ b. MatchBool b ((a : Tables C) × EntersPending c l w t a p v × Draws c w a m (suc p) v) (Unchanged w t m)) (sym e) (a, h, d)
 

@@ -1,11 +1,11 @@
 -- What the calls rely on holds of sound tables. Assumes nothing.
-use Rattle.std.proofs.Common.{◌≡◌, ℕ, zero, suc, ◌+◌, ◌-◌, ◌<◌, ◌≤◌, true, cond, sym, ap, ◌∙◌, subst, arith}
-use Rattle.std.proofs.lemmas.Bool.{ltb-true, false≢true}
+use Rattle.std.proofs.Common.{◌≡◌, ℕ, zero, suc, ◌-◌, ◌<◌, ◌≤◌, true, sym, ◌∙◌, subst, arith}
+use Rattle.std.proofs.lemmas.Bool.{false≢true}
 use Rattle.ladder.specs.declared.poses.Limits.{Limits}
 use Rattle.ladder.specs.Rules.{Rules}
 use Rattle.enumeration.specs.Tables.{Tables}
-use Rattle.enumeration.specs.Sound.{Lies, Holds, RungsSound, last_back}
-use Rattle.enumeration.specs.Writes.{Steady, Advanceable, Backed, successor_found}
+use Rattle.enumeration.specs.Sound.{Lies, RungsSound, last_back}
+use Rattle.enumeration.specs.Writes.{Backed}
 
 module _ {C P : Type 0} (c : Rules C P) (l : Limits) (w n : ℕ) (t : Tables C) (sound : RungsSound c l t n) (within : (q : ℕ) → q < n → t.used q ≤ w) where
   -- the last rank at a pose lies in the part of its block in use
@@ -32,25 +32,3 @@ module _ {C P : Type 0} (c : Rules C P) (l : Limits) (w n : ℕ) (t : Tables C) 
         let front = front_lies p u lt hu (pending_found (suc p) u lt hu e) in
         subst (λ z. z < t.size p) front.of_pose ((sound p (omega (arith, lt))).places (t.track (suc p) (t.station (suc p) u).last.0).front.0 front.in_use).numbered;
   }
-
-  steady : (p v : ℕ) → suc p < n → v < t.size (suc p) → t.used (suc p) < w → (t.station (suc p) v).found < 65535 → (t.station (suc p) v).pending ≡ true → Steady w t p v
-  steady p v h hv free found e =
-      let some = pending_found (suc p) v h hv e in
-      let below : p < n = omega (arith, h) in
-      let i = (t.track (suc p) (t.station (suc p) v).last.0).front.0 in
-      let front = front_lies p v h hv some in
-      let holds : Holds c l t p i = (sound p below).places i front.in_use in
-      let next : successor_found t p v ≡ true → Lies t p (t.track p i).pose.0 ((t.track p i).rank.0 + 1) (t.track p i).after.0 = λ f.
-      let lt = ltb-true ((last_back t (suc p) v).rank.0 + 1) (t.station p (last_back t (suc p) v).pose.0).found f in
-      holds.after (subst (λ z. z + 1 < (t.station p (t.track p i).pose.0).found) (sym front.of_rank) (subst (λ z. (last_back t (suc p) v).rank.0 + 1 < (t.station p z).found) (sym front.of_pose) lt)) in
-      record {
-        room = omega (arith, ((sound (suc p) h).poses v hv).sourced.1.room, ap {B = ℕ} (λ z. cond z 1 0) e, (sound p below).few);
-        more = record { found = found; free = free; last = λ _. (last_lies (suc p) v h hv some).in_use };
-        front = omega (arith, front.in_use, within p below);
-        after = λ f. omega (arith, (next f).in_use, within p below);
-        posed = λ f. omega (arith, (next f).of_pose, holds.numbered, (sound p below).few);
-      }
-
-  pub sound_advanceable : (r v : ℕ) → r < n → v < t.size r → t.used r < w → (t.station r v).found < 65535 → Advanceable w t r v
-  sound_advanceable zero v h hv free found = tt
-  sound_advanceable (suc p) v h hv free found = steady p v h hv free found

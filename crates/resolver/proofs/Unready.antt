@@ -11,14 +11,14 @@ use Rattle.resolver.specs.declared.answers.Refusal.{Refusal}
 use Rattle.resolver.specs.Answers.{number}
 use Rattle.resolver.specs.Calls.{Unready}
 use Rattle.resolver.specs.Standing.{book}
-use Rattle.resolver.proofs.Rungs.{length_ladder}
+use Rattle.resolver.proofs.Rungs.{many}
 
 module _ {C P : Type 0} (c : Rules C P) (k : Core C) where
   -- the refusal due
   refusal_due : (out : List Step) (e : Refusal) → Unready k (length out) e → next_answer c (book k) (tracks_of c k.limits (book k).rungs) (length out) ≡ refused (number e)
   refusal_due out e (inl h) = next_open c (book k) (tracks_of c k.limits (book k).rungs) out h.1 ∙ ap (λ z. refused (number z)) (sym h.0)
   refusal_due out e (inr h) =
-      let l : length (book k).rungs ≡ k.rungs = length_ladder k.stations.now k.extents k.rungs in
+      let l : length (book k).rungs ≡ k.rungs = many k in
       let s : length out < k.rungs = h.2 in
       next_short c (book k) (tracks_of c k.limits (book k).rungs) out h.1 (omega arith) ∙ ap (λ z. refused (number z)) (sym h.0)
 

@@ -16,6 +16,7 @@ impl<'t, C: Cost> Core<'t, C> {
         ensures same { Same self.old self.new }
         ensures effect { PlacesRung C.Cost.rules self.old self.new r poses.now }
     {
+        // by its place in the table: a walk over a part of the table beside the poses leaves open what its places hold then
         for (j, p) in poses.iter().enumerate() {
             self.stations[16 * r + j] = Station {
                 pose: *p,
@@ -49,6 +50,7 @@ impl<'t, C: Cost> Core<'t, C> {
         ensures effect { EntersEach C.Cost.rules self.old self.new r v.0 }
     {
         let size = self.extents[r - 1].poses;
+        // u is a pose number, and no place of a slice
         for u in 0..size {
             self.enter_from(r, v, PoseNumber(u));
         }
@@ -89,6 +91,7 @@ impl<'t, C: Cost> Core<'t, C> {
     {
         let r = self.rungs;
         self.place(r, poses);
+        // v is a pose number: what the pose is stands in the table by now
         for v in 0..poses.len() as u8 {
             self.settle(r, PoseNumber(v));
         }

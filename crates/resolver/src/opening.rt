@@ -30,7 +30,8 @@ pub struct LentTables<'t, C> {
     pub candidates: &'t mut [Candidate<C>],
 }
 
-// Whether a resolver can be opened for `rung_limit` rungs and `ration` tracks over tables of these lengths.
+// Whether a resolver can be opened for `rung_limit` rungs and `ration` tracks over tables of these lengths. It takes plain numbers: a host asks
+// before it has tables to lend.
 pub fn sizes(
     rung_limit: usize,
     ration: usize,

@@ -190,6 +190,7 @@ impl<'t, C: Cost> Core<'t, C> {
         ensures path { Descends C.Cost.rules self.now r v path.new result }
     {
         path[r] = v;
+        // p is a rung, and each is asked for by the pose that the one above it gave
         for p in (0..r).rev() {
             let Some(u) = self.needed(p + 1, path[p + 1]) else {
                 return p + 1;
@@ -205,8 +206,10 @@ impl<'t, C: Cost> Core<'t, C> {
         ensures same { Same self.old self.new }
         ensures effect { FindsNext C.Cost.rules self.old self.new r v.0 }
     {
+        // a place for each rung there may be, since the library allocates nothing
         let mut path = [v; 128];
         let low = self.descend(r, v, &mut path);
+        // i is a rung, which the call needs beside the pose that `path` has for it
         for i in low..r + 1 {
             self.advance(i, path[i]);
         }

@@ -5,19 +5,24 @@ use enumeration::{Candidate, Extent, Place, Ranked, Station};
 use ladder::poses::{Limits, PoseNumber};
 use ladder::rules::Cost;
 
-// What a resolver holds: the tables, the ladder's size, and how many tracks are taken, in all and at each pose of the last rung. Rung r has the stations 16·r to 16·r + 15, 16 + ration ranked places, and 16 candidate places for each station.
+// What a resolver holds: the tables, the ladder's size, and how many tracks are taken, in all and at each pose of the last rung. Rung r has the
+// stations 16·r to 16·r + 15, 16 + ration ranked places, and 16 candidate places for each station. The setup and the lent tables are held field
+// by field: two structs in their place would only lengthen each fact on what a step keeps and what it writes.
 #[derive(Drop)]
 pub struct Core<'t, C> {
     pub stations: &'t mut [Station],
     pub ranked: &'t mut [Ranked<C>],
     pub candidates: &'t mut [Candidate<C>],
+    // of a fixed length with `rungs` beside it, since the library allocates nothing
     pub extents: [Extent; 128],
     pub limits: Limits,
     pub rung_limit: usize,
     pub ration: usize,
     pub rungs: usize,
+    // a flag, and no type for each state: any call may come in either, and is then refused by its number
     pub closed: bool,
     pub taken: usize,
+    // of a fixed length too; the last rung's poses are the first of it
     pub counts: [u16; 16],
     pub recent: Option<PoseNumber>,
     ghost shoulder: { limits.shoulder ≤ 65535 },
@@ -31,7 +36,9 @@ pub struct Core<'t, C> {
     ghost candidates_fit: { 256 * rung_limit ≤ length candidates.now },
 }
 
-// The numbers that the tables hold are brought into range before they are used as places, so that no access leaves its table whatever they are.
+// The numbers that the tables hold are brought into range before they are used as places: what a table holds follows from the cost's rules, which
+// the type's invariant does not name. So no access leaves its table whatever they are. A rung and a pose number stay two parameters: nearly half of
+// the calls join a rung with another pose number than they were given, and a contract would have to name both fields each time.
 impl<'t, C: Cost> Core<'t, C> {
     ghost use Rattle.resolver.specs.Kept.{Same};
     ghost use Rattle.resolver.specs.Effects.{PutsStation, PutsTrack};

@@ -15,6 +15,7 @@ impl<'t, C: Cost> Core<'t, C> {
     fn taken_at(&self, v: PoseNumber) -> u16
         ensures { v.0 < 16 → result ≡ slice_index self.now.counts v.0 }
     {
+        // in range whatever v is, as in the tables
         self.counts[(v.0 as usize).min(15)]
     }
 
@@ -53,6 +54,7 @@ impl<'t, C: Cost> Core<'t, C> {
         ensures { IsBest C.Cost.rules self.now r result }
     {
         let mut best = None;
+        // tried as a fold: the proof did not close, since what the closure's calls gave could not be read there
         for v in 0..self.extents[r].poses {
             best = self.better(r, best, PoseNumber(v));
         }
@@ -66,6 +68,7 @@ impl<'t, C: Cost> Core<'t, C> {
         ensures { WritesSteps C.Cost.rules self.now r at.0 out.old out.new }
     {
         let mut place = at;
+        // i is a rung, by which the tables are read, and not only a place of `out`
         for i in (0..r + 1).rev() {
             let e = self.track(i, place);
             let pose = self.station(i, e.pose).pose;

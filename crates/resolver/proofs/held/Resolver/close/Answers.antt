@@ -4,13 +4,13 @@ use Rattle.std.proofs.lemmas.Bool.{false≢true}
 use Rattle.book.proofs.Replies.{closing_done}
 use Rattle.resolver.specs.Sound.{Sound}
 use Rattle.resolver.specs.Standing.{book}
-use Rattle.resolver.proofs.Rungs.{length_ladder}
+use Rattle.resolver.proofs.Rungs.{many}
 use Rattle.resolver.proofs.held.Resolver.close.Goals as goal
 
 pub returns : goal.returns
 returns g c =
     let k = c.args.self.now.core in
-    record { outcome = closing_done (book k) c.if-self.false k.rungs (length_ladder k.stations.now k.extents k.rungs) }
+    record { outcome = closing_done (book k) c.if-self.false k.rungs (many k) }
 
 pub invariant_of-self : goal.invariant_of-self
 invariant_of-self g c =

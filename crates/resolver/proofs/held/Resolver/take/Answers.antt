@@ -3,7 +3,7 @@ use Rattle.std.proofs.Math.Logic.{∥∥₁_elim, ∥∥₁_map}
 use Rattle.ladder.specs.Listed.{tracks_of}
 use Rattle.book.proofs.Replies.{next_spent, nexting_refused}
 use Rattle.resolver.specs.Standing.{book}
-use Rattle.resolver.proofs.Rungs.{length_ladder}
+use Rattle.resolver.proofs.Rungs.{many}
 use Rattle.resolver.proofs.Books.{next_done}
 use Rattle.resolver.proofs.Codes.{one_outcome}
 use Rattle.resolver.proofs.held.Resolver.take.Goals as goal
@@ -14,7 +14,7 @@ returns-then-self-clause-outcome g c =
     let rules = g.C.Cost.rules in
     let ts = tracks_of rules k.limits (book k).rungs in
     let out = c.args.out.now in
-    let l = length_ladder k.stations.now k.extents k.rungs in
+    let l = many k in
     nexting_refused rules (book k) ts out 9 (next_spent rules (book k) ts out c.requires.0 (omega (arith, l, c.requires.1)) (omega (arith, c.if-self.true)))
 
 pub returns-clause-outcome : goal.returns-clause-outcome

@@ -5,8 +5,8 @@ use Rattle.enumeration.specs.Writes.{StationPut, Links}
 use Rattle.resolver.proofs.Appending.{appends}
 use Rattle.resolver.proofs.tables.Core.append.Goals as goal
 
-pub returns : goal.returns
-returns g c =
+pub returns-clause-effect : goal.returns-clause-effect
+returns-clause-effect g c =
     let rules = g.C.Cost.rules in
     let k = c.args.self.now in
     let a = c.rank-at.new.self in
@@ -20,12 +20,9 @@ returns g c =
     let is = c.rank-at.ensures.effect.0 in
     let wa : width a ≡ width k = ap (λ z. 16 + z) c.rank-at.ensures.same.ration in
     let wb : width b ≡ width k = ap (λ z. 16 + z) c.link.ensures.same.ration ∙ wa in
-    record {
-      same = search rules;
-      effect = λ few fits.
-          let lt : i < width k = omega (arith, is, fits.free) in
-          appends (width k) (tables_of rules k) (tables_of rules a) (tables_of rules b) (tables_of rules m) r v i s n c.args.x lt few is fits.last (c.rank-at.ensures.effect.1 lt)
-          (subst (λ z. Links z (tables_of rules a) (tables_of rules b) r s i) wa (c.link.ensures.effect (λ some. omega (arith, fits.last some, fits.free, c.rank-at.ensures.same.ration))))
-          (subst (λ z. StationPut z (tables_of rules b) (tables_of rules m) r v n) wb (c.put_station.ensures.effect few))
-          (ap (λ (z : ℕ). record { pose = s.pose; waiting = s.waiting; found = z; last = record { 0 = i }; pending = ltb 0 r }) (omega (arith, c.saturating_add.ensures, fits.found)));
-    }
+    λ few fits.
+    let lt : i < width k = omega (arith, is, fits.free) in
+    appends (width k) (tables_of rules k) (tables_of rules a) (tables_of rules b) (tables_of rules m) r v i s n c.args.x lt few is fits.last (c.rank-at.ensures.effect.1 lt)
+    (subst (λ z. Links z (tables_of rules a) (tables_of rules b) r s i) wa (c.link.ensures.effect (λ some. omega (arith, fits.last some, fits.free, c.rank-at.ensures.same.ration))))
+    (subst (λ z. StationPut z (tables_of rules b) (tables_of rules m) r v n) wb (c.put_station.ensures.effect few))
+    (ap (λ (z : ℕ). record { pose = s.pose; waiting = s.waiting; found = z; last = record { 0 = i }; pending = ltb 0 r }) (omega (arith, c.saturating_add.ensures, fits.found)))

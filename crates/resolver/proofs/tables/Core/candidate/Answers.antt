@@ -1,8 +1,20 @@
-use Rattle.std.proofs.Common.{◌≡◌, ◌-◌, ◌<◌, sym, ap, ◌∙◌, subst, arith}
+use Rattle.std.proofs.Common.{◌≡◌, ℕ, suc, ◌-◌, ◌<◌, sym, ap, ◌∙◌, subst, arith}
 use Rattle.enumeration.specs.declared.records.Ranked.{Ranked}
+use Rattle.ladder.specs.declared.poses.Limits.{Limits}
+use Rattle.ladder.specs.Rules.{Rules}
+use Rattle.enumeration.specs.declared.records.Station.{Station}
+use Rattle.enumeration.specs.Tables.{Tables}
+use Rattle.enumeration.specs.Waiting.{extended}
+use Rattle.enumeration.specs.Writes.{candidate_at}
 use Rattle.resolver.specs.Tables.{tables_of, station_at, track_at}
-use Rattle.resolver.proofs.Entering.{candidate_read}
 use Rattle.resolver.proofs.tables.Core.candidate.Goals as goal
+
+-- a candidate made from what is read
+candidate_read : {C P : Type 0} (c : Rules C P) (t : Tables C) (l : Limits) (p v i : ℕ) (e : Ranked C) (from to : Station) → e ≡ t.track p i → from ≡ t.station p e.pose.0 → to ≡ t.station (suc p) v → extended c l from.pose to.pose e (record { 0 = i }) ≡ candidate_at c t l p v i
+candidate_read {C} c t l p v i e from to track station target =
+    ap (λ (s : Station). extended c l s.pose to.pose e (record { 0 = i })) (station ∙ ap (λ (y : Ranked C). t.station p y.pose.0) track)
+    ∙ ap (λ (s : Station). extended c l (t.station p (t.track p i).pose.0).pose s.pose e (record { 0 = i })) target
+    ∙ ap (λ (y : Ranked C). extended c l (t.station p (t.track p i).pose.0).pose (t.station (suc p) v).pose y (record { 0 = i })) track
 
 pub returns : goal.returns
 returns g c p above few lt posed =

@@ -1,14 +1,9 @@
-use Rattle.std.proofs.Common.{◌≡◌, suc, ◌+◌, ◌-◌, ◌<◌, Some, None, sym, refl, ◌∙◌, subst, arith, length-set}
+use Rattle.std.proofs.Common.{◌≡◌, suc, ◌+◌, ◌-◌, ◌<◌, Some, sym, ◌∙◌, subst, arith, length-set}
 use Rattle.resolver.specs.Effects.{IsNeeded}
 use Rattle.resolver.specs.Tables.{tables_of, width}
 use Rattle.enumeration.specs.Writes.{PathDown, path_at, needed_at}
-use Rattle.resolver.proofs.Descent.{backed_readable, path_starts, path_goes_down}
+use Rattle.resolver.proofs.Descent.{backed_readable, path_goes_down}
 use Rattle.resolver.proofs.tables.Core.descend.Goals as goal
-
-pub loop-p-init : goal.loop-p-init
-loop-p-init g c = λ numbered backed.
-    let k = c.args.self.now in
-    path_starts (width k) (tables_of g.C.Cost.rules k) c.args.r c.args.v c.args.path.now c.requires.path numbered
 
 pub loop-p-preserved : goal.loop-p-preserved
 loop-p-preserved g c = λ numbered backed.
@@ -25,24 +20,3 @@ loop-p-preserved g c = λ numbered backed.
     let needs = subst (λ z. IsNeeded g.C.Cost.rules k z (path_at path z).0 c.needed.result) back c.needed.ensures in
     let said = sym c.in-Some.is ∙ needs few (backed_readable (width k) t r at (path_at path at).0 backed c.loop-p.auto.p pose) in
     path_goes_down (width k) t r c.args.v path (at - 1) c.in-Some.u (omega (arith, c.loop-p.auto.path, length-set c.args.path.now r c.args.v, c.requires.path)) backed (omega (arith, c.loop-p.auto.p, above)) (subst (λ z. Some c.in-Some.u ≡ needed_at t z (path_at path z).0) above said) (subst (λ z. PathDown t r c.args.v path z) above down)
-
-pub returns-in_default-clause-path : goal.returns-in_default-clause-path
-returns-in_default-clause-path g c = λ numbered backed.
-    let k = c.args.self.now in
-    let t = tables_of g.C.Cost.rules k in
-    let r = c.args.r in
-    let at = c.loop-p.p in
-    let path = c.loop-p.path in
-    let down = c.loop-p.invariant numbered backed in
-    let back : at - 1 + 1 ≡ at = omega (arith, c.loop-p-test.true) in
-    let pose = down.numbered at (omega arith) c.loop-p.auto.p in
-    let few : (path_at path at).0 < 16 = omega (arith, pose, backed.few at c.loop-p.auto.p) in
-    let needs = subst (λ z. IsNeeded g.C.Cost.rules k z (path_at path z).0 c.needed.result) back c.needed.ensures in
-    subst (λ z. PathDown t r c.args.v path z × (needed_at t z (path_at path z).0 ≡ None)) (sym back)
-    (down, sym (needs few (backed_readable (width k) t r at (path_at path at).0 backed c.loop-p.auto.p pose)) ∙ c.in_default.is)
-
-pub returns-clause-path : goal.returns-clause-path
-returns-clause-path g c = λ numbered backed.
-    let t = tables_of g.C.Cost.rules c.args.self.now in
-    let first : c.loop-p.p ≡ 0 = omega (arith, c.loop-p-test.false) in
-    (subst (λ z. PathDown t c.args.r c.args.v c.loop-p.path z) first (c.loop-p.invariant numbered backed), refl)

@@ -1,12 +1,6 @@
 use Rattle.std.proofs.Common.{◌≡◌, suc, subst, arith, rules}
-use Rattle.resolver.proofs.Finding.{Climbs, climb_starts, climb_goes_on, climb_ends}
+use Rattle.resolver.proofs.Finding.{Climbs, climb_goes_on, climb_ends}
 use Rattle.resolver.proofs.tables.Core.find_next.Goals as goal
-
-pub loop-i-init : goal.loop-i-init
-loop-i-init g c = (
-  search rules,
-  climb_starts g.C.Cost.rules g.met.C.Cost.lawful c.args.self.now c.args.r c.descend-low.new.path c.descend-low.result,
-)
 
 pub loop-i-preserved : goal.loop-i-preserved
 loop-i-preserved g c =
@@ -18,8 +12,8 @@ loop-i-preserved g c =
       climb_goes_on g.C.Cost.rules g.met.C.Cost.lawful k c.loop-i.self c.advance.new.self c.args.r path low i c.loop-i.invariant.0 c.loop-i.auto.i (omega (arith, c.loop-i-test.true)) c.loop-i.invariant.1 c.advance.ensures.effect,
     )
 
-pub returns : goal.returns
-returns g c =
+pub returns-clause-effect : goal.returns-clause-effect
+returns-clause-effect g c =
     let rules = g.C.Cost.rules in
     let laws = g.met.C.Cost.lawful in
     let k = c.args.self.now in
@@ -27,7 +21,4 @@ returns g c =
     let path = c.descend-low.new.path in
     let low = c.descend-low.result in
     let past : c.loop-i.i ≡ suc r = omega (arith, c.loop-i-test.false, c.descend-low.ensures.low, c.loop-i.auto.i-end (omega (arith, c.descend-low.ensures.low))) in
-    record {
-      same = c.loop-i.invariant.0;
-      effect = climb_ends rules laws k c.loop-i.self r c.args.v path low c.descend-low.ensures.low c.descend-low.ensures.path (subst (λ i. Climbs rules laws k c.loop-i.self r path low i) past c.loop-i.invariant.1);
-    }
+    climb_ends rules laws k c.loop-i.self r c.args.v path low c.descend-low.ensures.low c.descend-low.ensures.path (subst (λ i. Climbs rules laws k c.loop-i.self r path low i) past c.loop-i.invariant.1)

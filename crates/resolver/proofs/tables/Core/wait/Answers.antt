@@ -1,4 +1,4 @@
-use Rattle.std.proofs.Common.{◌≡◌, ◌+◌, ◌*◌, List, take, drop, sym, ap, ◌∙◌, subst, arith}
+use Rattle.std.proofs.Common.{◌≡◌, ◌+◌, ◌*◌, List, sym, ap, ◌∙◌, arith}
 use Rattle.std.specs.List.{between}
 use Rattle.enumeration.specs.declared.records.Candidate.{Candidate}
 use Rattle.enumeration.specs.declared.records.Station.{Station}
@@ -9,8 +9,8 @@ use Rattle.resolver.proofs.Slices.{parts_elsewhere}
 use Rattle.resolver.proofs.Heaps.{pushed_at}
 use Rattle.resolver.proofs.tables.Core.wait.Goals as goal
 
-pub returns : goal.returns
-returns g c =
+pub returns-clause-effect : goal.returns-clause-effect
+returns-clause-effect g c =
     let rules = g.C.Cost.rules in
     let k = c.args.self.now in
     let r = c.args.r in
@@ -19,27 +19,22 @@ returns g c =
     let ys = c.enter_part-waiting.new.table in
     let n = c.enter_part-waiting.result in
     let e = c.enter_part-waiting.ensures in
+    λ few room.
+    let S = station_at k r v in
+    let i = c.station_place-i.ensures.is few in
+    let s = c.station-s.ensures few in
+    let p = c.put_station.ensures.effect few in
+    let part : (l : List (Candidate g.row.C.Denot)) → between (16 * c.station_place-i.result) (16 * c.station_place-i.result + 16) l ≡ between (16 * (16 * r + v)) (16 * (16 * r + v) + 16) l = λ l. ap (λ j. between (16 * j) (16 * j + 16) l) i in
+    let some : c.min-n.result ≡ S.waiting = omega (arith, c.min-n.ensures, ap (λ t. t.waiting) s, room) in
     record {
-      same = search rules;
-      effect = λ few room.
-          let S = station_at k r v in
-          let i = c.station_place-i.ensures.is few in
-          let s = c.station-s.ensures few in
-          let p = c.put_station.ensures.effect few in
-          let part : (l : List (Candidate g.row.C.Denot)) → between (16 * c.station_place-i.result) (16 * c.station_place-i.result + 16) l ≡ between (16 * (16 * r + v)) (16 * (16 * r + v) + 16) l = λ l. ap (λ j. between (16 * j) (16 * j + 16) l) i in
-          let some : c.min-n.result ≡ S.waiting = omega (arith, c.min-n.ensures, ap (λ t. t.waiting) s, room) in
-          let below = subst (λ j. take (16 * j) ys ≡ take (16 * j) xs) i e.below in
-          let above = subst (λ j. drop (16 * j + 16) ys ≡ drop (16 * j + 16) xs) i e.above in
-          record {
-            elsewhere = record {
-              sizes = p.elsewhere.sizes;
-              stations = p.elsewhere.stations;
-              slots = λ q u h ne. p.elsewhere.slots q u h ne ∙ parts_elsewhere xs ys q u r v h few ne below above;
-              tracks = p.elsewhere.tracks;
-              used = p.elsewhere.used;
-            };
-            block = record { tracks = p.block.tracks; used = p.block.used };
-            station = p.here ∙ ap (λ (t : Station). with_waiting t n) s ∙ ap (λ z. with_waiting S z) (sym (ap (λ t. t.waiting) p.here));
-            pushed = pushed_at (ReachedBoth rules) (earlier rules) c.args.x (part xs) some (part ys ∙ sym p.slots) (sym (ap (λ t. t.waiting) p.here)) (e.inside (omega (arith, some, room)));
-          };
+      elsewhere = record {
+        sizes = p.elsewhere.sizes;
+        stations = p.elsewhere.stations;
+        slots = λ q u h ne. p.elsewhere.slots q u h ne ∙ parts_elsewhere xs ys q u r v c.station_place-i.result i h few ne e.below e.above;
+        tracks = p.elsewhere.tracks;
+        used = p.elsewhere.used;
+      };
+      block = record { tracks = p.block.tracks; used = p.block.used };
+      station = p.here ∙ ap (λ (t : Station). with_waiting t n) s ∙ ap (λ z. with_waiting S z) (sym (ap (λ t. t.waiting) p.here));
+      pushed = pushed_at (ReachedBoth rules) (earlier rules) c.args.x (part xs) some (part ys ∙ sym p.slots) (sym (ap (λ t. t.waiting) p.here)) (e.inside (omega (arith, some, room)));
     }

@@ -1,4 +1,4 @@
-use Rattle.std.proofs.Common.{◌≡◌, suc, ◌+◌, ◌-◌, ◌<◌, ◌≤◌, sym, ap, ◌∙◌, subst, add-one, arith}
+use Rattle.std.proofs.Common.{◌≡◌, suc, ◌+◌, ◌-◌, ◌<◌, ◌≤◌, sym, ap, ◌∙◌, subst, arith}
 use Rattle.ladder.specs.declared.poses.Step.{Step}
 use Rattle.enumeration.specs.declared.records.Ranked.{Ranked}
 use Rattle.enumeration.specs.declared.records.Station.{Station}
@@ -7,12 +7,6 @@ use Rattle.resolver.specs.Tables.{tables_of, station_at, track_at}
 use Rattle.resolver.proofs.Bounded.{bounded}
 use Rattle.resolver.proofs.Writing.{step_back, next_in_use}
 use Rattle.resolver.proofs.tables.Core.write.Goals as goal
-
-pub loop-i-init : goal.loop-i-init
-loop-i-init g c = λ n h s room u.
-    let t = tables_of g.C.Cost.rules c.args.self.now in
-    let one = add-one c.args.r in
-    (λ j e. subst (λ x. c.args.at.0 < t.used x) (let z : c.args.r ≡ j = omega (arith, e) in z) u, ap (λ x. read_onto t x c.args.at.0 c.args.out.now) one)
 
 pub loop-i-preserved : goal.loop-i-preserved
 loop-i-preserved g c = λ n h s room u.
