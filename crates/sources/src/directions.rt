@@ -1,5 +1,5 @@
 // The directions that a link can point in, 64 to a turn.
-ghost use Rattle.std.specs.Prelude.{◌≡◌, ◌+◌, ◌^◌, ◌<◌};
+ghost use Rattle.std.specs.Prelude.{◌≡◌};
 ghost use Rattle.sources.specs.Directions.{sine, cosine};
 
 // 10,000 times the sine of each direction.
@@ -20,8 +20,7 @@ pub fn sine_of(direction: usize) -> i32
 
 // 10,000 times its cosine: the sine a quarter turn on.
 pub fn cosine_of(direction: usize) -> i32
-    requires { direction + 16 < 2 ^ 64 }
     ensures { result ≡ cosine direction }
 {
-    sine_of(direction + 16)
+    sine_of(direction % 64 + 16)
 }
