@@ -1,3 +1,4 @@
+mod Turns
 mod Scans
 mod Shown
 mod Rising
