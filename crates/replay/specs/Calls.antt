@@ -1,5 +1,5 @@
 -- The run that a list of calls and the record of their answers and outputs tell of. Assumes nothing.
-use Rattle.std.specs.Prelude.{◌≡◌, ℕ, ◌+◌, ◌≤◌, cond, List, [], ◌∷◌, length, take, drop, Some, None, Option, nat_le}
+use Rattle.std.specs.Prelude.{◌≡◌, ℕ, ◌+◌, ◌≤◌, if◌then◌else◌, List, [], ◌∷◌, length, take, drop, Some, None, Option, nat_le}
 use Rattle.std.specs.List.{slice_get}
 use Rattle.std.specs.Option.{option_map}
 use Rattle.ladder.specs.declared.poses.Step.{Step}
@@ -45,7 +45,7 @@ module _ (meanings : List (ℕ → Rung)) (filters : List Filter) where
 
   -- none too where too few places are left for its output
   abbrev pub event : {C : Type 0} → Call → book.Answer C → List Step → List Step → Option (Event C)
-  event c a before after = cond (nat_le (places c) (length before)) (named c a before after) None
+  event c a before after = if nat_le (places c) (length before) then named c a before after else None
 
   abbrev pub followed : {C : Type 0} → Option (Event C) → List (Event C) → List (Event C)
   followed None es = []
