@@ -20,6 +20,6 @@ impl Printed for Travel {
     ghost shown = { λ c. decimal c.total };
 
     fn print(self, text: &mut Text) {
-        text.number(self.total);
+        text.number(self.total as u64);
     }
 }

@@ -22,6 +22,7 @@ pub(crate) fn make<C: Cost, S: Source, F: Filter>(
     ensures filters { map F.Filter.passes filters.new ≡ map F.Filter.passes filters.old }
     ensures made { Made (map S.Source.meaning sources.old) (map F.Filter.passes filters.old) C.Cost.rules call resolver.old.core outputs.old result outputs.new resolver.new.core }
 {
+    // sources and filters by index: nothing is known of a slice's elements after `get_mut`
     if call.places() > outputs.len() {
         return None;
     }

@@ -45,6 +45,7 @@ pub fn replay<'t, C: Cost, S: Source, F: Filter>(
     ensures filters { map F.Filter.passes filters.new ≡ map F.Filter.passes filters.old }
 {
     let mut resolver = Resolver::open(limits, rung_limit, ration, stations, ranked, candidates);
+    // the places that calls before took; with the outputs split at each call the loop has a line more, and a slice to move on
     let mut used = 0;
     for (k, call) in calls.iter().enumerate() {
         if k >= answers.len() {
