@@ -1,5 +1,6 @@
 -- Which answer of adding and closing comes when. Assumes nothing.
-use Rattle.std.proofs.Common.{◌≡◌, ℕ, ◌+◌, ◌<◌, Bool, true, false, cond, not, ◌&&◌, ◌||◌, eqb, ltb, leb, ◌↔◌, [], ◌++◌, length, sym, refl, ap, ◌∙◌, arith}
+use Rattle.std.proofs.Common.{◌≡◌, ℕ, ◌+◌, ◌<◌, Bool, true, false, cond, not, ◌&&◌, ◌||◌, ltb, leb, ◌↔◌, [], ◌++◌, length, sym, refl, ap, ◌∙◌, arith}
+use Rattle.std.proofs.Math.Bool.{or-false, and-false}
 use Rattle.std.proofs.lemmas.Bool.{false≢true, true≢false, not-true, not-false, not_from_false, not_from_true, ltb-true, ltb-false, leb-true, leb-false, lt-ltb, le-ltb, le-leb, lt-leb}
 use Rattle.ladder.specs.Tracks.{Rung}
 use Rattle.book.specs.Book.{Book, Answer, counted, given, refused, accepted, add, close, add_answer, close_answer, adding, closing}
@@ -8,19 +9,6 @@ use Rattle.book.specs.Runs.{Event, brought, closes, taken_after, left_by, Adds, 
 -- one answer is not two
 pub refused_is : {V : Type 0} {a : Answer V} {p q : ℕ} → a ≡ refused p → a ≡ refused q → p ≡ q
 refused_is {V} {a} {p} {q} x y = cc
-
-pub not_given : {V : Type 0} {a : Answer V} {q k : ℕ} {v : V} → a ≡ refused q → a ≡ given k v → ⊥
-not_given {V} {a} {q} {k} {v} x y = let z : ◌≡◌ {A = ℕ} 0 1 = cc in omega arith
-
-not_counted : {V : Type 0} {a : Answer V} {q n : ℕ} → a ≡ refused q → a ≡ counted n → ⊥
-not_counted {V} {a} {q} {n} x y = let z : ◌≡◌ {A = ℕ} 0 1 = cc in omega arith
-
--- refusals with different numbers differ
-pub apart : {V : Type 0} {a : Answer V} (p q : ℕ) → a ≡ refused p → a ≡ refused q → eqb p q ≡ false → ⊥
-apart {V} {a} p q x y d = false≢true (sym d ∙ ap (λ n. eqb p n) (sym (refused_is x y)) ∙ same p)
-  where
-    same : (n : ℕ) → eqb n n ≡ true
-    same n = Rattle.std.proofs.lemmas.Bool.eq-eqb n n refl
 
 -- four questions with the numbers 3 to 6
 module _ {V : Type 0} (a : Answer V) (n : ℕ) where
@@ -32,45 +20,11 @@ module _ {V : Type 0} (a : Answer V) (n : ℕ) where
     six : (a ≡ refused 6) ↔ ((x ≡ true) × (y ≡ true) × (z ≡ true) × (w ≡ false))
 
   four : (x y z w : Bool) → a ≡ cond x (cond y (cond z (cond w (counted n) (refused 6)) (refused 5)) (refused 4)) (refused 3) → Four x y z w
-  four false y z w e = record {
-    done = (λ k. absurd (not_counted e k), λ p. absurd (false≢true p.0));
-    three = (λ k. refl, λ p. e);
-    fourth = (λ k. absurd (apart 3 4 e k refl), λ p. absurd (false≢true p.0));
-    five = (λ k. absurd (apart 3 5 e k refl), λ p. absurd (false≢true p.0));
-    six = (λ k. absurd (apart 3 6 e k refl), λ p. absurd (false≢true p.0));
-  }
-  four true false z w e = record {
-    done = (λ k. absurd (not_counted e k), λ p. absurd (false≢true p.1));
-    three = (λ k. absurd (apart 4 3 e k refl), λ p. absurd (true≢false p));
-    fourth = (λ k. (refl, refl), λ p. e);
-    five = (λ k. absurd (apart 4 5 e k refl), λ p. absurd (false≢true p.1));
-    six = (λ k. absurd (apart 4 6 e k refl), λ p. absurd (false≢true p.1));
-  }
-  four true true false w e = record {
-    done = (λ k. absurd (not_counted e k), λ p. absurd (false≢true p.2));
-    three = (λ k. absurd (apart 5 3 e k refl), λ p. absurd (true≢false p));
-    fourth = (λ k. absurd (apart 5 4 e k refl), λ p. absurd (true≢false p.1));
-    five = (λ k. (refl, refl, refl), λ p. e);
-    six = (λ k. absurd (apart 5 6 e k refl), λ p. absurd (false≢true p.2));
-  }
-  four true true true false e = record {
-    done = (λ k. absurd (not_counted e k), λ p. absurd (false≢true p.3));
-    three = (λ k. absurd (apart 6 3 e k refl), λ p. absurd (true≢false p));
-    fourth = (λ k. absurd (apart 6 4 e k refl), λ p. absurd (true≢false p.1));
-    five = (λ k. absurd (apart 6 5 e k refl), λ p. absurd (true≢false p.2));
-    six = (λ k. (refl, refl, refl, refl), λ p. e);
-  }
-  four true true true true e = record {
-    done = (λ k. (refl, refl, refl, refl), λ p. e);
-    three = (λ k. absurd (not_counted k e), λ p. absurd (true≢false p));
-    fourth = (λ k. absurd (not_counted k e), λ p. absurd (true≢false p.1));
-    five = (λ k. absurd (not_counted k e), λ p. absurd (true≢false p.2));
-    six = (λ k. absurd (not_counted k e), λ p. absurd (true≢false p.3));
-  }
-
-or_false : (x : Bool) → (x || false) ≡ x
-or_false true = refl
-or_false false = refl
+  four false y z w e = record { done = (λ k. cc, λ p. cc); three = (λ k. refl, λ p. e); fourth = (λ k. cc, λ p. cc); five = (λ k. cc, λ p. cc); six = (λ k. cc, λ p. cc) }
+  four true false z w e = record { done = (λ k. cc, λ p. cc); three = (λ k. cc, λ p. cc); fourth = (λ k. (refl, refl), λ p. e); five = (λ k. cc, λ p. cc); six = (λ k. cc, λ p. cc) }
+  four true true false w e = record { done = (λ k. cc, λ p. cc); three = (λ k. cc, λ p. cc); fourth = (λ k. cc, λ p. cc); five = (λ k. (refl, refl, refl), λ p. e); six = (λ k. cc, λ p. cc) }
+  four true true true false e = record { done = (λ k. cc, λ p. cc); three = (λ k. cc, λ p. cc); fourth = (λ k. cc, λ p. cc); five = (λ k. cc, λ p. cc); six = (λ k. (refl, refl, refl, refl), λ p. e) }
+  four true true true true e = record { done = (λ k. (refl, refl, refl, refl), λ p. e); three = (λ k. cc, λ p. cc); fourth = (λ k. cc, λ p. cc); five = (λ k. cc, λ p. cc); six = (λ k. cc, λ p. cc) }
 
 -- the book that an answer leaves
 abbrev left_of : {V : Type 0} → ℕ → Book → Event V → Answer V → Book
@@ -86,21 +40,17 @@ left_of n b e a = record {
 -- a refusal leaves the book where it leaves the count
 pub refusal_leaves : {V : Type 0} (n : ℕ) (b : Book) (e : Event V) (q : ℕ) → e.answer ≡ refused q → taken_after {V = V} b n (refused q) ≡ b.taken → left_by n b e ≡ b
 refusal_leaves n b e q a t =
-    ap (left_of n b e) a ∙ (λ i. record { limits = b.limits; rung_limit = b.rung_limit; ration = b.ration; rungs = b.rungs; closed = or_false b.closed i; taken = t i })
+    ap (left_of n b e) a ∙ (λ i. record { limits = b.limits; rung_limit = b.rung_limit; ration = b.ration; rungs = b.rungs; closed = or-false b.closed i; taken = t i })
 
 cond_same : {X : Type 0} (t : Bool) (x : X) → cond t x x ≡ x
 cond_same true x = refl
 cond_same false x = refl
 
-and_false : (x : Bool) → (x && false) ≡ false
-and_false true = refl
-and_false false = refl
-
 -- asking for a track leaves all but the count
 pub asking_leaves : {V : Type 0} (n : ℕ) (b : Book) (e : Event V) (t : ℕ) → brought e.call ≡ [] → closes e.call ≡ false → taken_after b n e.answer ≡ t → left_by n b e ≡ record { limits = b.limits; rung_limit = b.rung_limit; ration = b.ration; rungs = b.rungs; closed = b.closed; taken = t }
 asking_leaves n b e t none stays is =
     let rs : cond (accepted e.answer) (brought e.call ++ b.rungs) b.rungs ≡ b.rungs = ap (λ xs. cond (accepted e.answer) (xs ++ b.rungs) b.rungs) none ∙ cond_same (accepted e.answer) b.rungs in
-    let cl : (b.closed || (accepted e.answer && closes e.call)) ≡ b.closed = ap (λ x. b.closed || (accepted e.answer && x)) stays ∙ ap (λ x. b.closed || x) (and_false (accepted e.answer)) ∙ or_false b.closed in
+    let cl : (b.closed || (accepted e.answer && closes e.call)) ≡ b.closed = ap (λ x. b.closed || (accepted e.answer && x)) stays ∙ ap (λ x. b.closed || x) (and-false (accepted e.answer)) ∙ or-false b.closed in
     λ i. record { limits = b.limits; rung_limit = b.rung_limit; ration = b.ration; rungs = rs i; closed = cl i; taken = is i }
 
 module _ {V : Type 0} (b : Book) (n : ℕ) (r : Rung) (e : Event V) (call_is : e.call ≡ add r) (ea : e.answer ≡ add_answer b r) where
@@ -116,7 +66,7 @@ module _ {V : Type 0} (b : Book) (n : ℕ) (r : Rung) (e : Event V) (call_is : e
   refused_by true false z w q k = ap (λ m. taken_after {V = V} b n (refused m)) (refused_is {V = V} refl k)
   refused_by true true false w q k = ap (λ m. taken_after {V = V} b n (refused m)) (refused_is {V = V} refl k)
   refused_by true true true false q k = ap (λ m. taken_after {V = V} b n (refused m)) (refused_is {V = V} refl k)
-  refused_by true true true true q k = absurd (not_counted {V = V} refl k)
+  refused_by true true true true q k = cc
 
   pub adds : Adds b n r e
   adds = record {
@@ -130,16 +80,16 @@ module _ {V : Type 0} (b : Book) (n : ℕ) (r : Rung) (e : Event V) (call_is : e
 
   -- what adding leaves, told from its answer, is the book after
   add_left : (x y z w : Bool) → left_of n b e (cond x (cond y (cond z (cond w (counted (length b.rungs + 1)) (refused 6)) (refused 5)) (refused 4)) (refused 3)) ≡ cond (accepted {V = V} (cond x (cond y (cond z (cond w (counted (length b.rungs + 1)) (refused 6)) (refused 5)) (refused 4)) (refused 3))) (Rattle.book.specs.Book.with_rung b r) b
-  add_left false y z w i = record { limits = b.limits; rung_limit = b.rung_limit; ration = b.ration; rungs = b.rungs; closed = or_false b.closed i; taken = b.taken }
-  add_left true false z w i = record { limits = b.limits; rung_limit = b.rung_limit; ration = b.ration; rungs = b.rungs; closed = or_false b.closed i; taken = b.taken }
-  add_left true true false w i = record { limits = b.limits; rung_limit = b.rung_limit; ration = b.ration; rungs = b.rungs; closed = or_false b.closed i; taken = b.taken }
-  add_left true true true false i = record { limits = b.limits; rung_limit = b.rung_limit; ration = b.ration; rungs = b.rungs; closed = or_false b.closed i; taken = b.taken }
+  add_left false y z w i = record { limits = b.limits; rung_limit = b.rung_limit; ration = b.ration; rungs = b.rungs; closed = or-false b.closed i; taken = b.taken }
+  add_left true false z w i = record { limits = b.limits; rung_limit = b.rung_limit; ration = b.ration; rungs = b.rungs; closed = or-false b.closed i; taken = b.taken }
+  add_left true true false w i = record { limits = b.limits; rung_limit = b.rung_limit; ration = b.ration; rungs = b.rungs; closed = or-false b.closed i; taken = b.taken }
+  add_left true true true false i = record { limits = b.limits; rung_limit = b.rung_limit; ration = b.ration; rungs = b.rungs; closed = or-false b.closed i; taken = b.taken }
   add_left true true true true i = record {
     limits = b.limits;
     rung_limit = b.rung_limit;
     ration = b.ration;
     rungs = brought (call_is i) ++ b.rungs;
-    closed = (ap (λ k. b.closed || closes k) call_is ∙ or_false b.closed) i;
+    closed = (ap (λ k. b.closed || closes k) call_is ∙ or-false b.closed) i;
     taken = b.taken;
   }
 
@@ -151,7 +101,7 @@ module _ {V : Type 0} (b : Book) (n : ℕ) (e : Event V) (call_is : e.call ≡ c
   closed_by true h =
       let a : e.answer ≡ refused 3 = ea ∙ ap (λ x. cond (not x) (counted (length b.rungs)) (refused 3)) h in
       record {
-        done = (λ k. absurd (not_counted a k), λ p. absurd (false≢true (sym p ∙ h)));
+        done = (λ k. cc, λ p. cc);
         shut = (λ k. h, λ p. a);
         leaves = λ q k. refusal_leaves n b e q k (ap (λ m. taken_after {V = V} b n (refused m)) (refused_is k a));
       }
@@ -159,15 +109,15 @@ module _ {V : Type 0} (b : Book) (n : ℕ) (e : Event V) (call_is : e.call ≡ c
       let a : e.answer ≡ counted (length b.rungs) = ea ∙ ap (λ x. cond (not x) (counted (length b.rungs)) (refused 3)) h in
       record {
         done = (λ k. h, λ p. a);
-        shut = (λ k. absurd (not_counted k a), λ p. absurd (false≢true (sym h ∙ p)));
-        leaves = λ q k. absurd (not_counted k a);
+        shut = (λ k. cc, λ p. cc);
+        leaves = λ q k. cc;
       }
 
   pub closes_it : Closes b n e
   closes_it = closed_by b.closed refl
 
   close_left : (x : Bool) → b.closed ≡ x → left_of n b e (cond (not x) (counted (length b.rungs)) (refused 3)) ≡ cond (accepted {V = V} (cond (not x) (counted (length b.rungs)) (refused 3))) (Rattle.book.specs.Book.shut b) b
-  close_left true h i = record { limits = b.limits; rung_limit = b.rung_limit; ration = b.ration; rungs = b.rungs; closed = or_false b.closed i; taken = b.taken }
+  close_left true h i = record { limits = b.limits; rung_limit = b.rung_limit; ration = b.ration; rungs = b.rungs; closed = or-false b.closed i; taken = b.taken }
   close_left false h i = record {
     limits = b.limits;
     rung_limit = b.rung_limit;
