@@ -1,9 +1,9 @@
 -- What is promised of asking for a track. Assumes nothing.
-use Rattle.std.proofs.Common.{◌≡◌, ℕ, zero, suc, ◌+◌, ◌-◌, ◌<◌, ◌≤◌, Bool, true, false, cond, eqb, ltb, leb, ◌⊎◌, List, [], ◌∷◌, length, get_or, drop, sym, refl, ap, ◌∙◌, subst, inl, inr, ⊎_elim, arith}
+use Rattle.std.proofs.Common.{◌≡◌, ℕ, zero, suc, ◌+◌, ◌-◌, ◌<◌, ◌≤◌, Bool, true, false, cond, ltb, leb, ◌⊎◌, List, [], ◌∷◌, length, get_or, drop, sym, refl, ap, ◌∙◌, subst, inl, inr, ⊎_elim, arith}
 use Rattle.std.specs.Ordering.{is_le}
 use Rattle.std.proofs.lemmas.List.{length-drop, get_or-drop}
 use Rattle.std.proofs.ByRecursion.{All-drop, All-weaker, All-get_or}
-use Rattle.std.proofs.lemmas.Bool.{false≢true, leb-true, leb-false, lt-ltb, le-ltb, cases_order, cases_lt, cases_eq, ne_eqb}
+use Rattle.std.proofs.lemmas.Bool.{leb-true, leb-false, lt-ltb, le-ltb, cases_order, cases_lt, cases_eq, ne_eqb}
 use Rattle.ladder.specs.declared.poses.Step.{Step}
 use Rattle.ladder.specs.Rules.{Rules, Lawful, Reached}
 use Rattle.ladder.specs.Tracks.{Ladder, Track, Bounded, Admissible, steps, cost}
@@ -11,7 +11,7 @@ use Rattle.ladder.specs.Listed.{peel, tracks_of}
 use Rattle.ladder.proofs.Sorting.{ascending_less}
 use Rattle.ladder.proofs.Forward.{length_steps}
 use Rattle.ladder.proofs.Peeled.{reached, sound, less_cheaper, one_list}
-use Rattle.book.specs.Book.{Book, Outcome, Answer, given, refused, Filter, written, judging, seeking}
+use Rattle.book.specs.Book.{Book, Outcome, Answer, given, refused, Filter, judging, seeking}
 use Rattle.book.specs.Runs.{Event, TheList, taken_after, Ready, Left, Gives, held, Seeks, any, Nexts}
 use Rattle.book.proofs.Judging.{with_taken, last_judged, Long, Turned, Way, spent, ended, passed, Judged, judged}
 use Rattle.book.proofs.Questions.{refusal_leaves}
@@ -98,6 +98,7 @@ module _ {V P : Type 0} (c : Rules V P) (laws : Lawful c) (b : Book) (bounded : 
           gives = λ k v g. cc;
           holds = holds_after m (taken_after b (length all) e.answer) (ap (taken_after b (length all)) a ∙ sym r) o;
         }
+
         -- there was no track more
         seeks_ended : (m : ℕ) → e.answer ≡ refused 10 → m ≡ length left → b.taken + m < b.ration → Turned c f b.rungs left m → e.output ≡ last_judged b.rungs left m out → Seeks c b all f out e
         seeks_ended m a h r t o = record {

@@ -1,7 +1,7 @@
 -- Which answer of adding and closing comes when. Assumes nothing.
 use Rattle.std.proofs.Common.{◌≡◌, ℕ, ◌+◌, ◌<◌, Bool, true, false, cond, not, ◌&&◌, ◌||◌, ltb, leb, ◌↔◌, [], ◌++◌, length, sym, refl, ap, ◌∙◌, arith}
 use Rattle.std.proofs.Math.Bool.{or-false, and-false}
-use Rattle.std.proofs.lemmas.Bool.{false≢true, true≢false, not-true, not-false, not_from_false, not_from_true, ltb-true, ltb-false, leb-true, leb-false, lt-ltb, le-ltb, le-leb, lt-leb}
+use Rattle.std.proofs.lemmas.Bool.{not-true, not-false, not_from_false, not_from_true, ltb-true, ltb-false, leb-true, leb-false, lt-ltb, le-ltb, le-leb, lt-leb}
 use Rattle.ladder.specs.Tracks.{Rung}
 use Rattle.book.specs.Book.{Book, Answer, counted, given, refused, accepted, add, close, add_answer, close_answer, adding, closing}
 use Rattle.book.specs.Runs.{Event, brought, closes, taken_after, left_by, Adds, Closes}

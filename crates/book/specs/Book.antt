@@ -58,28 +58,32 @@ abbrev pub opened : Limits → ℕ → ℕ → ℕ → ℕ → ℕ → Book
 opened l limit ration poses ranked candidates =
     if accepted (sizing {V = ℕ} limit ration poses ranked candidates) then new_book l limit ration else new_book l 0 1
 
--- the book with one rung more, closed, and with one track more taken
+-- the book with one rung more
 abbrev pub with_rung : Book → Rung → Book
-with_rung b r = record { limits = b.limits; rung_limit = b.rung_limit; ration = b.ration; rungs = r ∷ b.rungs; closed = b.closed; taken = b.taken }
+with_rung b r = record b { rungs = r ∷ b.rungs }
 
+-- the book, closed
 abbrev pub shut : Book → Book
-shut b = record { limits = b.limits; rung_limit = b.rung_limit; ration = b.ration; rungs = b.rungs; closed = true; taken = b.taken }
+shut b = record b { closed = true }
 
+-- the book with one track more taken
 abbrev pub one_taken : Book → Book
-one_taken b = record { limits = b.limits; rung_limit = b.rung_limit; ration = b.ration; rungs = b.rungs; closed = b.closed; taken = b.taken + 1 }
+one_taken b = record b { taken = b.taken + 1 }
 
--- adding a rung from a source's list
+-- what adding a rung from a source's list answers
 abbrev pub add_answer : {V : Type 0} → Book → Rung → Answer V
 add_answer b r =
     first_no ((not b.closed, 3) ∷ (nat_lt (length b.rungs) b.rung_limit, 4) ∷ (nat_lt 0 (length r), 5) ∷ (nat_le (length r) 16, 6) ∷ []) (counted (length b.rungs + 1))
 
+-- adding: an accepted one appends its rung
 abbrev pub adding : {V : Type 0} → Book → Rung → Outcome V
 adding {V} b r = record { answer = add_answer b r; output = []; book = if accepted (add_answer {V = V} b r) then with_rung b r else b }
 
--- closing
+-- what closing answers
 abbrev pub close_answer : {V : Type 0} → Book → Answer V
 close_answer b = first_no ((not b.closed, 3) ∷ []) (counted (length b.rungs))
 
+-- closing: an accepted one closes
 abbrev pub closing : {V : Type 0} → Book → Outcome V
 closing {V} b = record { answer = close_answer b; output = []; book = if accepted (close_answer {V = V} b) then shut b else b }
 
@@ -87,11 +91,12 @@ closing {V} b = record { answer = close_answer b; output = []; book = if accepte
 abbrev pub written : List Step → List Step → List Step
 written ss out = ss ++ drop (length ss) out
 
--- next, where ts is the list of the ladder: its first untaken track
+-- what next answers, where ts is the list of the ladder: its first untaken track
 abbrev pub next_answer : {V P : Type 0} → Rules V P → Book → List Track → ℕ → Answer V
 next_answer c b ts places =
     first_no ((b.closed, 7) ∷ (nat_le (length b.rungs) places, 8) ∷ (nat_lt b.taken b.ration, 9) ∷ (nat_lt b.taken (length ts), 10) ∷ []) (given (b.taken + 1) (cost c b.rungs (slice_index_or ts b.taken [])))
 
+-- next, likewise: an accepted one writes the track's steps and takes it
 abbrev pub nexting_of : {V P : Type 0} → Rules V P → Book → List Track → List Step → Outcome V
 nexting_of c b ts out = record {
   answer = next_answer c b ts (length out);
@@ -99,6 +104,7 @@ nexting_of c b ts out = record {
   book = if accepted (next_answer c b ts (length out)) then one_taken b else b;
 }
 
+-- next, over the list of the book's own ladder
 abbrev pub nexting : {V P : Type 0} → Rules V P → Book → List Step → Outcome V
 nexting c b out = nexting_of c b (tracks_of c b.limits b.rungs) out
 
@@ -120,6 +126,7 @@ seeking_of c b ts f out =
     let judged = if nat_le (length b.rungs) (length out) then judging c f (drop b.taken ts) b out else record { answer = refused 8; output = out; book = b } in
     if b.closed then judged else record { answer = refused 7; output = out; book = b }
 
+-- seeking, likewise
 abbrev pub seeking : {V P : Type 0} → Rules V P → Book → Filter → List Step → Outcome V
 seeking c b f out = seeking_of c b (tracks_of c b.limits b.rungs) f out
 

@@ -42,10 +42,7 @@ taken_after b n (refused q) = if q == 9 then b.ration else (if q == 10 then n el
 
 -- what a call leaves, told from its answer: an accepted adding puts its rung on the ladder, an accepted closing closes it, and a refusal leaves ladder and closing as they were
 abbrev pub left_by : {V : Type 0} → ℕ → Book → Event V → Book
-left_by n b e = record {
-  limits = b.limits;
-  rung_limit = b.rung_limit;
-  ration = b.ration;
+left_by n b e = record b {
   rungs = if accepted e.answer then brought e.call ++ b.rungs else b.rungs;
   closed = b.closed || (accepted e.answer && closes e.call);
   taken = taken_after b n e.answer;

@@ -52,6 +52,7 @@ module _ (meanings : List (ℕ → Rung)) (filters : List Filter) where
   abbrev pub event : {C : Type 0} → Call → book.Answer C → List Step → List Step → Option (Event C)
   event c a before after = if nat_le (places c) (length before) then named c a before after else None
 
+  -- an event, if there is one, before those of the calls after it; none ends the run
   abbrev pub followed : {C : Type 0} → Option (Event C) → List (Event C) → List (Event C)
   followed None es = []
   followed (Some e) es = e ∷ es
