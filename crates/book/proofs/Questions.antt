@@ -28,10 +28,7 @@ module _ {V : Type 0} (a : Answer V) (n : ℕ) where
 
 -- the book that an answer leaves
 abbrev left_of : {V : Type 0} → ℕ → Book → Event V → Answer V → Book
-left_of n b e a = record {
-  limits = b.limits;
-  rung_limit = b.rung_limit;
-  ration = b.ration;
+left_of n b e a = record b {
   rungs = cond (accepted a) (brought e.call ++ b.rungs) b.rungs;
   closed = b.closed || (accepted a && closes e.call);
   taken = taken_after b n a;
@@ -40,18 +37,18 @@ left_of n b e a = record {
 -- a refusal leaves the book where it leaves the count
 pub refusal_leaves : {V : Type 0} (n : ℕ) (b : Book) (e : Event V) (q : ℕ) → e.answer ≡ refused q → taken_after {V = V} b n (refused q) ≡ b.taken → left_by n b e ≡ b
 refusal_leaves n b e q a t =
-    ap (left_of n b e) a ∙ (λ i. record { limits = b.limits; rung_limit = b.rung_limit; ration = b.ration; rungs = b.rungs; closed = or-false b.closed i; taken = t i })
+    ap (left_of n b e) a ∙ (λ i. record b { closed = or-false b.closed i; taken = t i })
 
 cond_same : {X : Type 0} (t : Bool) (x : X) → cond t x x ≡ x
 cond_same true x = refl
 cond_same false x = refl
 
 -- asking for a track leaves all but the count
-pub asking_leaves : {V : Type 0} (n : ℕ) (b : Book) (e : Event V) (t : ℕ) → brought e.call ≡ [] → closes e.call ≡ false → taken_after b n e.answer ≡ t → left_by n b e ≡ record { limits = b.limits; rung_limit = b.rung_limit; ration = b.ration; rungs = b.rungs; closed = b.closed; taken = t }
+pub asking_leaves : {V : Type 0} (n : ℕ) (b : Book) (e : Event V) (t : ℕ) → brought e.call ≡ [] → closes e.call ≡ false → taken_after b n e.answer ≡ t → left_by n b e ≡ record b { taken = t }
 asking_leaves n b e t none stays is =
     let rs : cond (accepted e.answer) (brought e.call ++ b.rungs) b.rungs ≡ b.rungs = ap (λ xs. cond (accepted e.answer) (xs ++ b.rungs) b.rungs) none ∙ cond_same (accepted e.answer) b.rungs in
     let cl : (b.closed || (accepted e.answer && closes e.call)) ≡ b.closed = ap (λ x. b.closed || (accepted e.answer && x)) stays ∙ ap (λ x. b.closed || x) (and-false (accepted e.answer)) ∙ or-false b.closed in
-    λ i. record { limits = b.limits; rung_limit = b.rung_limit; ration = b.ration; rungs = rs i; closed = cl i; taken = is i }
+    λ i. record b { rungs = rs i; closed = cl i; taken = is i }
 
 module _ {V : Type 0} (b : Book) (n : ℕ) (r : Rung) (e : Event V) (call_is : e.call ≡ add r) (ea : e.answer ≡ add_answer b r) where
   abbrev room : Bool
@@ -80,18 +77,11 @@ module _ {V : Type 0} (b : Book) (n : ℕ) (r : Rung) (e : Event V) (call_is : e
 
   -- what adding leaves, told from its answer, is the book after
   add_left : (x y z w : Bool) → left_of n b e (cond x (cond y (cond z (cond w (counted (length b.rungs + 1)) (refused 6)) (refused 5)) (refused 4)) (refused 3)) ≡ cond (accepted {V = V} (cond x (cond y (cond z (cond w (counted (length b.rungs + 1)) (refused 6)) (refused 5)) (refused 4)) (refused 3))) (Rattle.book.specs.Book.with_rung b r) b
-  add_left false y z w i = record { limits = b.limits; rung_limit = b.rung_limit; ration = b.ration; rungs = b.rungs; closed = or-false b.closed i; taken = b.taken }
-  add_left true false z w i = record { limits = b.limits; rung_limit = b.rung_limit; ration = b.ration; rungs = b.rungs; closed = or-false b.closed i; taken = b.taken }
-  add_left true true false w i = record { limits = b.limits; rung_limit = b.rung_limit; ration = b.ration; rungs = b.rungs; closed = or-false b.closed i; taken = b.taken }
-  add_left true true true false i = record { limits = b.limits; rung_limit = b.rung_limit; ration = b.ration; rungs = b.rungs; closed = or-false b.closed i; taken = b.taken }
-  add_left true true true true i = record {
-    limits = b.limits;
-    rung_limit = b.rung_limit;
-    ration = b.ration;
-    rungs = brought (call_is i) ++ b.rungs;
-    closed = (ap (λ k. b.closed || closes k) call_is ∙ or-false b.closed) i;
-    taken = b.taken;
-  }
+  add_left false y z w i = record b { closed = or-false b.closed i }
+  add_left true false z w i = record b { closed = or-false b.closed i }
+  add_left true true false w i = record b { closed = or-false b.closed i }
+  add_left true true true false i = record b { closed = or-false b.closed i }
+  add_left true true true true i = record b { rungs = brought (call_is i) ++ b.rungs; closed = (ap (λ k. b.closed || closes k) call_is ∙ or-false b.closed) i }
 
   pub add_leaves : left_by n b e ≡ (adding {V = V} b r).book
   add_leaves = ap (left_of n b e) ea ∙ add_left (not b.closed) room (ltb 0 (length r)) (leb (length r) 16)
@@ -117,15 +107,8 @@ module _ {V : Type 0} (b : Book) (n : ℕ) (e : Event V) (call_is : e.call ≡ c
   closes_it = closed_by b.closed refl
 
   close_left : (x : Bool) → b.closed ≡ x → left_of n b e (cond (not x) (counted (length b.rungs)) (refused 3)) ≡ cond (accepted {V = V} (cond (not x) (counted (length b.rungs)) (refused 3))) (Rattle.book.specs.Book.shut b) b
-  close_left true h i = record { limits = b.limits; rung_limit = b.rung_limit; ration = b.ration; rungs = b.rungs; closed = or-false b.closed i; taken = b.taken }
-  close_left false h i = record {
-    limits = b.limits;
-    rung_limit = b.rung_limit;
-    ration = b.ration;
-    rungs = brought (call_is i) ++ b.rungs;
-    closed = (ap (λ k. b.closed || closes k) call_is ∙ ap (λ x. x || true) h) i;
-    taken = b.taken;
-  }
+  close_left true h i = record b { closed = or-false b.closed i }
+  close_left false h i = record b { rungs = brought (call_is i) ++ b.rungs; closed = (ap (λ k. b.closed || closes k) call_is ∙ ap (λ x. x || true) h) i }
 
   pub close_leaves : left_by n b e ≡ (closing {V = V} b).book
   close_leaves = ap (left_of n b e) ea ∙ close_left b.closed refl
