@@ -48,7 +48,8 @@ fn list_tracks<C: Printed>(
     Ok(())
 }
 
-// The listing of a resolver whose waypoints are added, up to the refusal that ends it.
+// The listing of a resolver whose waypoints are added, up to the refusal that ends it. A resolver and a text go together here and in `list_tracks`
+// alone: a struct of the two would be a type more, with no fact of its own.
 fn list_closed<C: Printed>(resolver: &mut Resolver<C>, text: &mut Text) -> Result<(), Refusal> {
     let rungs = resolver.close()?;
     head_line::<C>(text, rungs);

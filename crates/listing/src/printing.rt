@@ -6,7 +6,7 @@ use crate::text::Text;
 use ladder::costs::Travel;
 use ladder::rules::Cost;
 
-// A cost with a text of its own; a lawful cost owes none.
+// A cost with a text of its own; a lawful cost owes none. Not `Display`, whose writing may fail: see `Text`.
 pub trait Printed: Cost {
     ghost shown: { Self → List ℕ };
 
