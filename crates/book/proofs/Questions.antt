@@ -1,7 +1,7 @@
 -- Which answer of adding and closing comes when. Assumes nothing.
-use Rattle.std.proofs.Common.{◌≡◌, ℕ, ◌+◌, ◌<◌, Bool, true, false, cond, not, ◌&&◌, ◌||◌, ltb, leb, ◌↔◌, [], ◌++◌, length, sym, refl, ap, ◌∙◌, arith}
+use Rattle.std.proofs.Common.{◌≡◌, ℕ, ◌+◌, Bool, true, false, cond, not, ◌&&◌, ◌||◌, ltb, leb, [], ◌++◌, length, sym, refl, ap, ◌∙◌, arith}
 use Rattle.std.proofs.Math.Bool.{or-false, and-false}
-use Rattle.std.proofs.lemmas.Bool.{not-true, not-false, not_from_false, not_from_true, ltb-true, ltb-false, leb-true, leb-false, lt-ltb, le-ltb, le-leb, lt-leb}
+use Rattle.std.proofs.lemmas.Bool.Decides.{nat_tests}
 use Rattle.ladder.specs.Tracks.{Rung}
 use Rattle.book.specs.Book.{Book, Answer, counted, given, refused, accepted, add, close, add_answer, close_answer, adding, closing}
 use Rattle.book.specs.Runs.{Event, brought, closes, taken_after, left_by, Adds, Closes}
@@ -9,22 +9,6 @@ use Rattle.book.specs.Runs.{Event, brought, closes, taken_after, left_by, Adds, 
 -- one answer is not two
 pub refused_is : {V : Type 0} {a : Answer V} {p q : ℕ} → a ≡ refused p → a ≡ refused q → p ≡ q
 refused_is {V} {a} {p} {q} x y = cc
-
--- four questions with the numbers 3 to 6
-module _ {V : Type 0} (a : Answer V) (n : ℕ) where
-  record Four (x y z w : Bool) : Type 0 where
-    done : (a ≡ counted n) ↔ ((x ≡ true) × (y ≡ true) × (z ≡ true) × (w ≡ true))
-    three : (a ≡ refused 3) ↔ (x ≡ false)
-    fourth : (a ≡ refused 4) ↔ ((x ≡ true) × (y ≡ false))
-    five : (a ≡ refused 5) ↔ ((x ≡ true) × (y ≡ true) × (z ≡ false))
-    six : (a ≡ refused 6) ↔ ((x ≡ true) × (y ≡ true) × (z ≡ true) × (w ≡ false))
-
-  four : (x y z w : Bool) → a ≡ cond x (cond y (cond z (cond w (counted n) (refused 6)) (refused 5)) (refused 4)) (refused 3) → Four x y z w
-  four false y z w e = record { done = (λ k. cc, λ p. cc); three = (λ k. refl, λ p. e); fourth = (λ k. cc, λ p. cc); five = (λ k. cc, λ p. cc); six = (λ k. cc, λ p. cc) }
-  four true false z w e = record { done = (λ k. cc, λ p. cc); three = (λ k. cc, λ p. cc); fourth = (λ k. (refl, refl), λ p. e); five = (λ k. cc, λ p. cc); six = (λ k. cc, λ p. cc) }
-  four true true false w e = record { done = (λ k. cc, λ p. cc); three = (λ k. cc, λ p. cc); fourth = (λ k. cc, λ p. cc); five = (λ k. (refl, refl, refl), λ p. e); six = (λ k. cc, λ p. cc) }
-  four true true true false e = record { done = (λ k. cc, λ p. cc); three = (λ k. cc, λ p. cc); fourth = (λ k. cc, λ p. cc); five = (λ k. cc, λ p. cc); six = (λ k. (refl, refl, refl, refl), λ p. e) }
-  four true true true true e = record { done = (λ k. (refl, refl, refl, refl), λ p. e); three = (λ k. cc, λ p. cc); fourth = (λ k. cc, λ p. cc); five = (λ k. cc, λ p. cc); six = (λ k. cc, λ p. cc) }
 
 -- the book that an answer leaves
 abbrev left_of : {V : Type 0} → ℕ → Book → Event V → Answer V → Book
@@ -54,9 +38,6 @@ module _ {V : Type 0} (b : Book) (n : ℕ) (r : Rung) (e : Event V) (call_is : e
   abbrev room : Bool
   room = ltb (length b.rungs) b.rung_limit
 
-  told : Four e.answer (length b.rungs + 1) (not b.closed) room (ltb 0 (length r)) (leb (length r) 16)
-  told = four e.answer (length b.rungs + 1) (not b.closed) room (ltb 0 (length r)) (leb (length r) 16) ea
-
   -- which number a refusal of adding can have
   refused_by : (x y z w : Bool) (q : ℕ) → ◌≡◌ {A = Answer V} (refused q) (cond x (cond y (cond z (cond w (counted (length b.rungs + 1)) (refused 6)) (refused 5)) (refused 4)) (refused 3)) → taken_after {V = V} b n (refused q) ≡ b.taken
   refused_by false y z w q k = ap (λ m. taken_after {V = V} b n (refused m)) (refused_is {V = V} refl k)
@@ -67,11 +48,11 @@ module _ {V : Type 0} (b : Book) (n : ℕ) (r : Rung) (e : Event V) (call_is : e
 
   pub adds : Adds b n r e
   adds = record {
-    done = (λ k. let p = told.done.0 k in (not-true b.closed p.0, ltb-true (length b.rungs) b.rung_limit p.1, ltb-true 0 (length r) p.2, leb-true (length r) 16 p.3), λ p. told.done.1 (not_from_false b.closed p.0, lt-ltb (length b.rungs) b.rung_limit p.1, lt-ltb 0 (length r) p.2, le-leb (length r) 16 p.3));
-    shut = (λ k. not-false b.closed (told.three.0 k), λ p. told.three.1 (not_from_true b.closed p));
-    full = (λ k. let p = told.fourth.0 k in (not-true b.closed p.0, ltb-false (length b.rungs) b.rung_limit p.1), λ p. told.fourth.1 (not_from_false b.closed p.0, le-ltb (length b.rungs) b.rung_limit p.1));
-    none = (λ k. let p = told.five.0 k in (not-true b.closed p.0, ltb-true (length b.rungs) b.rung_limit p.1, omega (arith, ltb-false 0 (length r) p.2)), λ p. told.five.1 (not_from_false b.closed p.0, lt-ltb (length b.rungs) b.rung_limit p.1, le-ltb 0 (length r) (let z : length r ≡ 0 = p.2 in omega arith)));
-    many = (λ k. let p = told.six.0 k in (not-true b.closed p.0, ltb-true (length b.rungs) b.rung_limit p.1, leb-false (length r) 16 p.3), λ p. told.six.1 (not_from_false b.closed p.0, lt-ltb (length b.rungs) b.rung_limit p.1, lt-ltb 0 (length r) (let z : 16 < length r = p.2 in omega arith), lt-leb (length r) 16 p.2));
+    done = (λ k. grind (arith, nat_tests), λ p. grind (arith, nat_tests));
+    shut = (λ k. grind (arith, nat_tests), λ p. grind (arith, nat_tests));
+    full = (λ k. grind (arith, nat_tests), λ p. grind (arith, nat_tests));
+    none = (λ k. grind (arith, nat_tests), λ p. grind (arith, nat_tests));
+    many = (λ k. grind (arith, nat_tests), λ p. grind (arith, nat_tests));
     leaves = λ q k. refusal_leaves n b e q k (refused_by (not b.closed) room (ltb 0 (length r)) (leb (length r) 16) q (sym k ∙ ea));
   }
 
