@@ -1,5 +1,5 @@
 -- Which answer of adding and closing comes when. Assumes nothing.
-use Rattle.std.proofs.Common.{◌≡◌, ℕ, ◌+◌, Bool, true, false, cond, not, ◌&&◌, ◌||◌, ltb, leb, [], ◌++◌, length, sym, refl, ap, ◌∙◌, arith}
+use Rattle.std.proofs.Common.{◌≡◌, ℕ, ◌+◌, Bool, true, false, cond, not, ◌&&◌, ◌||◌, ltb, leb, [], ◌++◌, length, refl, ap, ◌∙◌, arith}
 use Rattle.std.proofs.Math.Bool.{or-false, and-false}
 use Rattle.std.proofs.lemmas.Bool.Decides.{nat_tests}
 use Rattle.ladder.specs.Tracks.{Rung}
@@ -38,13 +38,9 @@ module _ {V : Type 0} (b : Book) (n : ℕ) (r : Rung) (e : Event V) (call_is : e
   abbrev room : Bool
   room = ltb (length b.rungs) b.rung_limit
 
-  -- which number a refusal of adding can have
-  refused_by : (x y z w : Bool) (q : ℕ) → ◌≡◌ {A = Answer V} (refused q) (cond x (cond y (cond z (cond w (counted (length b.rungs + 1)) (refused 6)) (refused 5)) (refused 4)) (refused 3)) → taken_after {V = V} b n (refused q) ≡ b.taken
-  refused_by false y z w q k = ap (λ m. taken_after {V = V} b n (refused m)) (refused_is {V = V} refl k)
-  refused_by true false z w q k = ap (λ m. taken_after {V = V} b n (refused m)) (refused_is {V = V} refl k)
-  refused_by true true false w q k = ap (λ m. taken_after {V = V} b n (refused m)) (refused_is {V = V} refl k)
-  refused_by true true true false q k = ap (λ m. taken_after {V = V} b n (refused m)) (refused_is {V = V} refl k)
-  refused_by true true true true q k = cc
+  -- a refusal of adding leaves the count of taken tracks
+  count_stays : (q : ℕ) → e.answer ≡ refused q → taken_after {V = V} b n (refused q) ≡ b.taken
+  count_stays q k = grind (arith, nat_tests)
 
   pub adds : Adds b n r e
   adds = record {
@@ -53,7 +49,7 @@ module _ {V : Type 0} (b : Book) (n : ℕ) (r : Rung) (e : Event V) (call_is : e
     full = (λ k. grind (arith, nat_tests), λ p. grind (arith, nat_tests));
     none = (λ k. grind (arith, nat_tests), λ p. grind (arith, nat_tests));
     many = (λ k. grind (arith, nat_tests), λ p. grind (arith, nat_tests));
-    leaves = λ q k. refusal_leaves n b e q k (refused_by (not b.closed) room (ltb 0 (length r)) (leb (length r) 16) q (sym k ∙ ea));
+    leaves = λ q k. refusal_leaves n b e q k (count_stays q k);
   }
 
   -- what adding leaves, told from its answer, is the book after
@@ -68,24 +64,12 @@ module _ {V : Type 0} (b : Book) (n : ℕ) (r : Rung) (e : Event V) (call_is : e
   add_leaves = ap (left_of n b e) ea ∙ add_left (not b.closed) room (ltb 0 (length r)) (leb (length r) 16)
 
 module _ {V : Type 0} (b : Book) (n : ℕ) (e : Event V) (call_is : e.call ≡ close) (ea : e.answer ≡ close_answer b) where
-  closed_by : (x : Bool) → b.closed ≡ x → Closes b n e
-  closed_by true h =
-      let a : e.answer ≡ refused 3 = ea ∙ ap (λ x. cond (not x) (counted (length b.rungs)) (refused 3)) h in
-      record {
-        done = (λ k. cc, λ p. cc);
-        shut = (λ k. h, λ p. a);
-        leaves = λ q k. refusal_leaves n b e q k (ap (λ m. taken_after {V = V} b n (refused m)) (refused_is k a));
-      }
-  closed_by false h =
-      let a : e.answer ≡ counted (length b.rungs) = ea ∙ ap (λ x. cond (not x) (counted (length b.rungs)) (refused 3)) h in
-      record {
-        done = (λ k. h, λ p. a);
-        shut = (λ k. cc, λ p. cc);
-        leaves = λ q k. cc;
-      }
-
   pub closes_it : Closes b n e
-  closes_it = closed_by b.closed refl
+  closes_it = record {
+    done = (λ k. grind arith, λ p. grind arith);
+    shut = (λ k. grind arith, λ p. grind arith);
+    leaves = λ q k. refusal_leaves n b e q k (let none : taken_after {V = V} b n (refused q) ≡ b.taken = grind arith in none);
+  }
 
   close_left : (x : Bool) → b.closed ≡ x → left_of n b e (cond (not x) (counted (length b.rungs)) (refused 3)) ≡ cond (accepted {V = V} (cond (not x) (counted (length b.rungs)) (refused 3))) (Rattle.book.specs.Book.shut b) b
   close_left true h i = record b { closed = or-false b.closed i }
