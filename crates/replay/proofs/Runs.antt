@@ -16,7 +16,7 @@ use Rattle.resolver.specs.declared.tables.Core.{Core}
 use Rattle.replay.specs.declared.calls.Call.{Call}
 use Rattle.replay.specs.declared.calls.Call.TheVariants.{Add, Close, Next, Seek}
 use Rattle.replay.specs.declared.calls.Reply.TheVariants.{Counted}
-use Rattle.replay.specs.Calls.{Recorded, told, places, all_places, named, event, followed, events, Made}
+use Rattle.replay.specs.Calls.{Recorded, told, places, all_places, named, event, events, Made}
 
 -- parts of lists
 take_front : {X : Type 0} (n : ℕ) (xs ys : List X) → n ≤ length xs → take n (take n xs ++ ys) ≡ take n xs
@@ -133,23 +133,12 @@ module _ {C P : Type 0} {r : Rules C P} {ms : List (ℕ → Rung)} {fs : List Fi
           let rs : List Step = take p rest ++ os in
           let answered : take (k + 1) (set answers k a) ++ ys ≡ take k answers ++ a ∷ ys = ap (λ xs. xs ++ ys) (take_more_set answers k a ha) ∙ append_assoc (take k answers) (a ∷ []) ys in
           let shown : take (used + p) (take used outputs ++ rest) ++ os ≡ take used outputs ++ rs = ap (λ xs. xs ++ os) (take_over (take used outputs) rest used p fronts) ∙ append_assoc (take used outputs) (take p rest) os in
-          ap (λ xs. events ms fs calls xs before (take (used + p) (take used outputs ++ rest) ++ os)) answered
-          ∙ ap (λ xs. events ms fs calls (take k answers ++ a ∷ ys) before xs) shown
-          ∙ s.tells (a ∷ ys) rs
-          ∙ ap (λ cs. s.made ++ events ms fs cs (a ∷ ys) (drop used before) rs) (drop_more calls k d hc)
-          ∙ ap (λ (o : Option (Event C)). s.made ++ followed ms fs o (events ms fs (drop (k + 1) calls) ys (drop p (drop used before)) (drop p rs))) (event_is os)
-          ∙ ap (λ xs. s.made ++ e ∷ events ms fs (drop (k + 1) calls) ys xs (drop p rs)) (drop-drop p used before)
-          ∙ ap (λ xs. s.made ++ e ∷ events ms fs (drop (k + 1) calls) ys (drop (used + p) before) xs) (drop_front p rest os enough)
-          ∙ sym (append_assoc s.made (e ∷ []) (events ms fs (drop (k + 1) calls) ys (drop (used + p) before) os))
+          rw (answered, shown, s.tells (a ∷ ys) rs, drop_more calls k d hc, event_is os, drop-drop p used before, drop_front p rest os enough, append_assoc s.made (e ∷ []))
 
       outputs_still : drop (used + p) (take used outputs ++ rest) ≡ drop (used + p) before
       unfolding p
       outputs_still =
-          sym (drop-drop p used (take used outputs ++ rest))
-          ∙ ap (drop p) (drop_at (take used outputs) rest used fronts)
-          ∙ m.4
-          ∙ ap (drop p) s.outputs_left
-          ∙ drop-drop p used before
+          rw (← drop-drop p used (take used outputs ++ rest), drop_at (take used outputs) rest used fronts, m.4, s.outputs_left, drop-drop p used before)
 
       one_more : SoFar r ms fs calls start answers0 before (k + 1) (used + places (get_or calls k d)) after (set answers k a) (take used outputs ++ rest)
       unfolding p e
@@ -196,10 +185,5 @@ module _ {C P : Type 0} {r : Rules C P} {ms : List (ℕ → Rung)} {fs : List Fi
     told_until hc ha d rest after meant passed made =
         let m = made_here (get_or calls k d) None rest after meant passed made in
         let c = get_or calls k d in
-        let x : Recorded C = get_or answers k (Ok (Counted 0)) in
         let same : put_mid used (length outputs - used) outputs rest ≡ outputs = tail_put used outputs rest ∙ ap (λ zs. take used outputs ++ zs) m.1 ∙ take-append-drop used outputs in
-        subst (Told r ms fs calls start answers0 before k answers) (sym same) (told_where (
-        ap (λ cs. events ms fs cs (drop k answers) (drop used before) (drop used outputs)) (drop_more calls k d hc)
-        ∙ ap (λ ys. events ms fs (c ∷ drop (k + 1) calls) ys (drop used before) (drop used outputs)) (drop_more answers k (Ok (Counted 0)) ha)
-        ∙ ap (λ (o : Option (Event C)). followed ms fs o (events ms fs (drop (k + 1) calls) (drop (k + 1) answers) (drop (places c) (drop used before)) (drop (places c) (drop used outputs)))) (ap (λ (zs : List Step). event ms fs c (told x) zs (drop used outputs)) (sym s.outputs_left) ∙ m.0 (told x) (drop used outputs))
-        ))
+        rw same (told_where (rw (drop_more calls k d hc, drop_more answers k (Ok (Counted 0)) ha, ← s.outputs_left, m.0)))
