@@ -3,7 +3,6 @@ use crate::lines::{Ending, head_line, last_line, track_line};
 use crate::printing::Printed;
 use crate::text::Text;
 use enumeration::{Candidate, Ranked, Station};
-use job::Job;
 use ladder::costs::Travel;
 use ladder::poses::{Limits, Step};
 use ladder::rules::Cost;
@@ -16,11 +15,11 @@ const RUNGS: usize = 8;
 const TRACKS: u16 = 64;
 
 // How many places the tables have: 16 stations for a rung, 16 + 64 ranked places, and 256 candidates.
-const STATIONS: usize = 128;
+const STATIONS: usize = 16 * RUNGS;
 
-const RANKED: usize = 640;
+const RANKED: usize = (16 + TRACKS as usize) * RUNGS;
 
-const CANDIDATES: usize = 2048;
+const CANDIDATES: usize = 256 * RUNGS;
 
 // Adds the waypoints 0 to n - 1.
 fn add_all<C: Printed, S: Source>(
@@ -57,26 +56,6 @@ fn list_closed<C: Printed>(resolver: &mut Resolver<C>, text: &mut Text) -> Resul
     list_tracks(resolver, &mut steps[..rungs.min(RUNGS)], text)
 }
 
-// The listing of a job whose poses come from a source, over these tables, up to the refusal that ends it.
-fn list_from<C: Printed, S: Source>(
-    job: &Job,
-    source: &mut S,
-    stations: &mut [Station],
-    ranked: &mut [Ranked<C>],
-    candidates: &mut [Candidate<C>],
-    text: &mut Text,
-) -> Result<(), Refusal> {
-    let limits = job.limits();
-    let limits = Limits {
-        shoulder: limits.shoulder,
-        elbow: limits.elbow,
-    };
-    let ration = job.ration().min(TRACKS) as usize;
-    let mut resolver = Resolver::open(limits, RUNGS, ration, stations, ranked, candidates);
-    add_all(&mut resolver, source, job.len())?;
-    list_closed(&mut resolver, text)
-}
-
 // The listing of a job file, up to what ends it.
 fn list_file<C: Printed>(
     file: &[u8],
@@ -86,26 +65,19 @@ fn list_file<C: Printed>(
     text: &mut Text,
 ) -> Result<(), Ending> {
     let job = job::read(file)?;
-    // one function at two types of source, which one variable cannot hold
+    let limits = job.limits();
+    let limits = Limits {
+        shoulder: limits.shoulder,
+        elbow: limits.elbow,
+    };
+    let ration = job.ration().min(TRACKS) as usize;
+    let mut resolver = Resolver::open(limits, RUNGS, ration, stations, ranked, candidates);
     if job.arm().is_some() {
-        list_from(
-            &job,
-            &mut Armed::new(file),
-            stations,
-            ranked,
-            candidates,
-            text,
-        )?;
+        add_all(&mut resolver, &mut Armed::new(file), job.len())?;
     } else {
-        list_from(
-            &job,
-            &mut Tabled::new(file),
-            stations,
-            ranked,
-            candidates,
-            text,
-        )?;
+        add_all(&mut resolver, &mut Tabled::new(file), job.len())?;
     }
+    list_closed(&mut resolver, text)?;
     Ok(())
 }
 

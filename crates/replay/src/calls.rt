@@ -20,10 +20,8 @@ impl Call {
         ensures { result ≡ places self }
     {
         match self {
-            Call::Add { .. } => 0,
-            Call::Close => 0,
-            Call::Next { places } => places,
-            Call::Seek { places, .. } => places,
+            Call::Add { .. } | Call::Close => 0,
+            Call::Next { places } | Call::Seek { places, .. } => places,
         }
     }
 }
