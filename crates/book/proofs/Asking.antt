@@ -1,9 +1,9 @@
 -- What is promised of asking for a track. Assumes nothing.
-use Rattle.std.proofs.Common.{◌≡◌, ℕ, zero, suc, ◌+◌, ◌-◌, ◌<◌, ◌≤◌, Bool, true, false, cond, eqb, ltb, leb, ◌⊎◌, List, [], ◌∷◌, length, get_or, drop, sym, refl, ap, ◌∙◌, subst, inl, inr, arith}
+use Rattle.std.proofs.Common.{◌≡◌, ℕ, zero, suc, ◌+◌, ◌-◌, ◌<◌, ◌≤◌, Bool, true, false, cond, ltb, leb, ◌⊎◌, List, [], ◌∷◌, length, get_or, drop, sym, refl, ap, ◌∙◌, subst, inl, inr, ⊎_elim, arith}
 use Rattle.std.specs.Ordering.{is_le}
 use Rattle.std.proofs.lemmas.List.{length-drop, get_or-drop}
 use Rattle.std.proofs.ByRecursion.{All-drop, All-weaker, All-get_or}
-use Rattle.std.proofs.lemmas.Bool.{false≢true, leb-true, leb-false, lt-ltb, le-ltb, cases_order, cases_lt, cases_eq, ne_eqb}
+use Rattle.std.proofs.lemmas.Bool.{leb-true, leb-false, lt-ltb, le-ltb, cases_order, cases_lt, cases_eq, ne_eqb}
 use Rattle.ladder.specs.declared.poses.Step.{Step}
 use Rattle.ladder.specs.Rules.{Rules, Lawful, Reached}
 use Rattle.ladder.specs.Tracks.{Ladder, Track, Bounded, Admissible, steps, cost}
@@ -11,10 +11,10 @@ use Rattle.ladder.specs.Listed.{peel, tracks_of}
 use Rattle.ladder.proofs.Sorting.{ascending_less}
 use Rattle.ladder.proofs.Forward.{length_steps}
 use Rattle.ladder.proofs.Peeled.{reached, sound, less_cheaper, one_list}
-use Rattle.book.specs.Book.{Book, Outcome, Answer, given, refused, Filter, written, judging, seeking}
+use Rattle.book.specs.Book.{Book, Outcome, Answer, given, refused, Filter, judging, seeking}
 use Rattle.book.specs.Runs.{Event, TheList, taken_after, Ready, Left, Gives, held, Seeks, any, Nexts}
 use Rattle.book.proofs.Judging.{with_taken, last_judged, Long, Turned, Way, spent, ended, passed, Judged, judged}
-use Rattle.book.proofs.Questions.{apart, not_given, refusal_leaves}
+use Rattle.book.proofs.Questions.{refusal_leaves}
 
 given_is : {V : Type 0} {a : Answer V} {k m : ℕ} {v w : V} → a ≡ given k v → a ≡ given m w → (k ≡ m) × (v ≡ w)
 given_is {V} {a} {k} {m} {v} {w} x y = (cc, cc)
@@ -66,68 +66,58 @@ module _ {V P : Type 0} (c : Rules V P) (laws : Lawful c) (b : Book) (bounded : 
       abbrev IsLeft : ℕ → Type 0
       IsLeft = Left c b all f out
 
-      -- a track that was turned down is not one that is left
-      not_turned : (m : ℕ) → Turned c f b.rungs left m → (j : ℕ) → IsLeft j → j < b.taken + m → ⊥
-      not_turned m t j l h =
+      -- a track that is left stands behind those that were turned down
+      not_before : (m : ℕ) → Turned c f b.rungs left m → (j : ℕ) → IsLeft j → b.taken + m ≤ j
+      not_before m t j l =
           let u : b.taken ≤ j = l.untaken in
           let at_j : b.taken + (j - b.taken) ≡ j = omega arith in
-          false≢true (sym (t (j - b.taken) (omega arith)) ∙ ap (λ w. f (steps b.rungs w)) (left_at (j - b.taken) ∙ ap (λ i. get_or all i []) at_j) ∙ l.passes)
+          let same : get_or left (j - b.taken) [] ≡ get_or all j [] = left_at (j - b.taken) ∙ ap (λ i. get_or all i []) at_j in
+          let yes : f (steps b.rungs (get_or left (j - b.taken) [])) ≡ true = rw same l.passes in
+          ⊎_elim (λ h. let no = t (j - b.taken) (omega arith) in absurd cc) (λ h. h) (cases_lt j (b.taken + m))
 
       -- what the output holds
       holds_after : (m n : ℕ) → n ≡ b.taken + m → e.output ≡ last_judged b.rungs left m out → e.output ≡ held c b all f out n
-      holds_after zero n is o =
-          let no_more : ltb b.taken n ≡ false = le-ltb b.taken n (omega arith) in
-          o ∙ sym (ap (λ x. cond x (written (steps b.rungs (get_or all (n - 1) [])) out) out) no_more)
+      holds_after zero n is o = let no_more : ltb b.taken n ≡ false = le-ltb b.taken n (omega arith) in rw no_more o
       holds_after (suc i) n is o =
           let more : ltb b.taken n ≡ true = lt-ltb b.taken n (omega arith) in
-          let at_i : b.taken + i ≡ n - 1 = omega arith in
-          o ∙ ap (λ w. written (steps b.rungs w) out) (left_at i ∙ ap (λ k. get_or all k []) at_i) ∙ sym (ap (λ x. cond x (written (steps b.rungs (get_or all (n - 1) [])) out) out) more)
+          let at_i : n - 1 ≡ b.taken + i = omega arith in
+          rw (more, at_i, ← left_at i) o
 
       module _ (shut : b.closed ≡ true) (room : length b.rungs ≤ length out) where
         ready : Ready c b all f out
         ready = record { shut = shut; room = room }
 
-        not_open : b.closed ≡ false → ⊥
-        not_open h = false≢true (sym h ∙ shut)
-
         -- the ration was spent
         seeks_spent : (m : ℕ) → e.answer ≡ refused 9 → b.taken + m ≡ b.ration → m ≤ length left → Turned c f b.rungs left m → e.output ≡ last_judged b.rungs left m out → Seeks c b all f out e
         seeks_spent m a r h t o = record {
-          open_still = (λ k. absurd (apart 9 7 a k refl), λ p. absurd (not_open p));
-          short = (λ k. absurd (apart 9 8 a k refl), λ p. absurd (let s : length out < length b.rungs = p.1 in omega arith));
-          spent = (λ k. (ready, omega (arith, length_left), λ j l. no_less j l), λ p. a);
-          ended = (λ k. absurd (apart 9 10 a k refl), λ p. absurd (let s : length all < b.ration = p.1 in omega (arith, length_left)));
-          served = λ w j l s. absurd (not_turned m t j l (omega arith));
-          gives = λ k v g. absurd (not_given a g);
+          open_still = (λ k. cc, λ p. cc);
+          short = (λ k. cc, λ p. absurd (omega arith));
+          spent = (λ k. (ready, omega (arith, length_left), λ j l. omega (arith, not_before m t j l)), λ p. a);
+          ended = (λ k. cc, λ p. absurd (omega (arith, length_left)));
+          served = λ w j l s. absurd (omega (arith, not_before m t j l));
+          gives = λ k v g. cc;
           holds = holds_after m (taken_after b (length all) e.answer) (ap (taken_after b (length all)) a ∙ sym r) o;
         }
-          where
-            no_less : (j : ℕ) → IsLeft j → b.ration ≤ j
-            no_less j l = step (cases_lt j b.ration)
-              where
-                step : (j < b.ration) ⊎ (b.ration ≤ j) → b.ration ≤ j
-                step (inl s) = absurd (not_turned m t j l (omega arith))
-                step (inr s) = s
 
         -- there was no track more
         seeks_ended : (m : ℕ) → e.answer ≡ refused 10 → m ≡ length left → b.taken + m < b.ration → Turned c f b.rungs left m → e.output ≡ last_judged b.rungs left m out → Seeks c b all f out e
         seeks_ended m a h r t o = record {
-          open_still = (λ k. absurd (apart 10 7 a k refl), λ p. absurd (not_open p));
-          short = (λ k. absurd (apart 10 8 a k refl), λ p. absurd (let s : length out < length b.rungs = p.1 in omega arith));
-          spent = (λ k. absurd (apart 10 9 a k refl), λ p. absurd (let s : b.ration ≤ length all = p.1 in omega (arith, length_left)));
-          ended = (λ k. (ready, omega (arith, length_left), λ j l. not_turned m t j l (let s : j < length all = l.inside in omega (arith, length_left))), λ p. a);
-          served = λ w j l s. absurd (not_turned m t j l (let u : j < length all = l.inside in omega (arith, length_left)));
-          gives = λ k v g. absurd (not_given a g);
+          open_still = (λ k. cc, λ p. cc);
+          short = (λ k. cc, λ p. absurd (omega arith));
+          spent = (λ k. cc, λ p. absurd (omega (arith, length_left)));
+          ended = (λ k. (ready, omega (arith, length_left), λ j l. omega (arith, length_left, l.inside, not_before m t j l)), λ p. a);
+          served = λ w j l s. absurd (omega (arith, length_left, l.inside, not_before m t j l));
+          gives = λ k v g. cc;
           holds = holds_after m (taken_after b (length all) e.answer) (ap (taken_after b (length all)) a ∙ sym length_left ∙ ap (λ x. b.taken + x) (sym h)) o;
         }
 
         -- the last one passed
         seeks_passed : (m i : ℕ) → m ≡ suc i → m ≤ length left → b.taken + m ≤ b.ration → e.answer ≡ given (b.taken + m) (cost c b.rungs (get_or left i [])) → f (steps b.rungs (get_or left i [])) ≡ true → Turned c f b.rungs left i → e.output ≡ last_judged b.rungs left m out → Seeks c b all f out e
         seeks_passed m i is h r a p t o = record {
-          open_still = (λ k. absurd (not_given k a), λ q. absurd (not_open q));
-          short = (λ k. absurd (not_given k a), λ q. absurd (let s : length out < length b.rungs = q.1 in omega arith));
-          spent = (λ k. absurd (not_given k a), λ q. absurd (let s : b.ration ≤ b.taken + i = q.2 (b.taken + i) chosen in omega arith));
-          ended = (λ k. absurd (not_given k a), λ q. absurd (q.2 (b.taken + i) chosen));
+          open_still = (λ k. cc, λ q. cc);
+          short = (λ k. cc, λ q. absurd (omega arith));
+          spent = (λ k. cc, λ q. absurd (omega (arith, q.2 (b.taken + i) chosen)));
+          ended = (λ k. cc, λ q. absurd (q.2 (b.taken + i) chosen));
           served = λ w j l s. (b.taken + m, cost c b.rungs (get_or left i []), a);
           gives = λ k v g. gives_it k v (given_is g a).0 (given_is g a).1;
           holds = holds_after m (taken_after b (length all) e.answer) (ap (taken_after b (length all)) a) o;
@@ -135,13 +125,6 @@ module _ {V P : Type 0} (c : Rules V P) (laws : Lawful c) (b : Book) (bounded : 
           where
             chosen : IsLeft (b.taken + i)
             chosen = record { untaken = omega arith; inside = omega (arith, length_left); passes = ap (λ w. f (steps b.rungs w)) (sym (left_at i)) ∙ p }
-
-            first : (j : ℕ) → IsLeft j → b.taken + i ≤ j
-            first j l = step (cases_lt j (b.taken + i))
-              where
-                step : (j < b.taken + i) ⊎ (b.taken + i ≤ j) → b.taken + i ≤ j
-                step (inl s) = absurd (not_turned i t j l s)
-                step (inr s) = s
 
             gives_it : (k : ℕ) (v : V) → k ≡ b.taken + m → v ≡ cost c b.rungs (get_or left i []) → Gives c b all f out k v
             gives_it k v ke ve =
@@ -152,8 +135,8 @@ module _ {V P : Type 0} (c : Rules V P) (laws : Lawful c) (b : Book) (bounded : 
                   rationed = omega arith;
                   is_left = subst IsLeft at_k chosen;
                   costs = worth ∙ ap (λ n. cost c b.rungs (get_or all n [])) at_k;
-                  first = λ j l. let s = first j l in omega arith;
-                  cheapest = λ j l. subst (λ x. is_le (c.compare x (cost c b.rungs (get_or all j []))) ≡ true) (sym worth) (cheaper (b.taken + i) j (first j l) l.inside);
+                  first = λ j l. omega (arith, not_before i t j l);
+                  cheapest = λ j l. subst (λ x. is_le (c.compare x (cost c b.rungs (get_or all j []))) ≡ true) (sym worth) (cheaper (b.taken + i) j (not_before i t j l) l.inside);
                 }
 
         seeks_judged : (o : Outcome V) (m : ℕ) → e.answer ≡ o.answer → e.output ≡ o.output → Judged c f left b out o m → Way c f left b o m → Seeks c b all f out e
@@ -168,22 +151,22 @@ module _ {V P : Type 0} (c : Rules V P) (laws : Lawful c) (b : Book) (bounded : 
       seeks_open : b.closed ≡ false → e.answer ≡ refused 7 → e.output ≡ out → Seeks c b all f out e
       seeks_open h a o = record {
         open_still = (λ k. h, λ p. a);
-        short = (λ k. absurd (apart 7 8 a k refl), λ p. absurd (false≢true (sym h ∙ p.0)));
-        spent = (λ k. absurd (apart 7 9 a k refl), λ p. absurd (false≢true (sym h ∙ p.0.shut)));
-        ended = (λ k. absurd (apart 7 10 a k refl), λ p. absurd (false≢true (sym h ∙ p.0.shut)));
-        served = λ w j l s. absurd (false≢true (sym h ∙ w.shut));
-        gives = λ k v g. absurd (not_given a g);
+        short = (λ k. cc, λ p. cc);
+        spent = (λ k. cc, λ p. cc);
+        ended = (λ k. cc, λ p. cc);
+        served = λ w j l s. cc;
+        gives = λ k v g. cc;
         holds = untouched 7 a refl o;
       }
 
       seeks_short : b.closed ≡ true → length out < length b.rungs → e.answer ≡ refused 8 → e.output ≡ out → Seeks c b all f out e
       seeks_short h s a o = record {
-        open_still = (λ k. absurd (apart 8 7 a k refl), λ p. absurd (false≢true (sym p ∙ h)));
+        open_still = (λ k. cc, λ p. cc);
         short = (λ k. (h, s), λ p. a);
-        spent = (λ k. absurd (apart 8 9 a k refl), λ p. absurd (no_room p.0));
-        ended = (λ k. absurd (apart 8 10 a k refl), λ p. absurd (no_room p.0));
+        spent = (λ k. cc, λ p. absurd (no_room p.0));
+        ended = (λ k. cc, λ p. absurd (no_room p.0));
         served = λ w j l q. absurd (no_room w);
-        gives = λ k v g. absurd (not_given a g);
+        gives = λ k v g. cc;
         holds = untouched 8 a refl o;
       }
         where
@@ -214,7 +197,7 @@ module _ {V P : Type 0} (c : Rules V P) (laws : Lawful c) (b : Book) (bounded : 
         after = counts w;
         rationed = j.rationed;
         inside = omega (arith, j.few, length_left);
-        unopened = λ k. absurd (false≢true (sym k ∙ h));
+        unopened = λ k. cc;
       }
         where
           counts : Way c f left b o m → taken_after b (length all) o.answer ≡ b.taken + m
@@ -240,18 +223,10 @@ module _ {V P : Type 0} (c : Rules V P) (laws : Lawful c) (b : Book) (bounded : 
       at_first h = record { untaken = omega arith; inside = h; passes = refl }
 
       spent_next : (b.ration ≤ length all) × ((j : ℕ) → OpenTo j → b.ration ≤ j) → b.ration ≤ b.taken
-      spent_next p = step (cases_lt b.taken (length all))
-        where
-          step : (b.taken < length all) ⊎ (length all ≤ b.taken) → b.ration ≤ b.taken
-          step (inl h) = p.1 b.taken (at_first h)
-          step (inr h) = let q : b.ration ≤ length all = p.0 in omega arith
+      spent_next p = ⊎_elim (λ h. p.1 b.taken (at_first h)) (λ h. omega arith) (cases_lt b.taken (length all))
 
       ended_next : ((j : ℕ) → OpenTo j → ⊥) → length all ≤ b.taken
-      ended_next p = step (cases_lt b.taken (length all))
-        where
-          step : (b.taken < length all) ⊎ (length all ≤ b.taken) → length all ≤ b.taken
-          step (inl h) = absurd (p b.taken (at_first h))
-          step (inr h) = h
+      ended_next p = ⊎_elim (λ h. absurd (p b.taken (at_first h))) (λ h. h) (cases_lt b.taken (length all))
 
       -- a refusal leaves the count of taken tracks
       count_stays : (q : ℕ) → e.answer ≡ refused q → taken_after {V = V} b (length all) (refused q) ≡ b.taken
@@ -264,12 +239,13 @@ module _ {V P : Type 0} (c : Rules V P) (laws : Lawful c) (b : Book) (bounded : 
           step (inr h) (inl k) =
               let p = s.ended.0 (a ∙ ap refused k) in
               ap (λ n. taken_after {V = V} b (length all) (refused n)) k ∙ (let z : length all ≡ b.taken = omega (arith, ended_next p.2) in z)
-          step (inr h) (inr k) = ap (λ x. cond x b.ration (cond (eqb q 10) (length all) b.taken)) (ne_eqb q 9 h) ∙ ap (λ x. cond x (length all) b.taken) (ne_eqb q 10 k)
+          step (inr h) (inr k) = rw (ne_eqb q 9 h, ne_eqb q 10 k)
 
       output_stays : (q : ℕ) → e.answer ≡ refused q → e.output ≡ out
       output_stays q a =
           let n : taken_after b (length all) e.answer ≡ b.taken = ap (taken_after b (length all)) a ∙ count_stays q a in
-          s.holds ∙ ap (held c b all any out) n ∙ ap (λ x. cond x (written (steps b.rungs (get_or all (b.taken - 1) [])) out) out) (le-ltb b.taken b.taken (omega arith))
+          let none : ltb b.taken b.taken ≡ false = le-ltb b.taken b.taken (omega arith) in
+          rw (s.holds, n, none)
 
       pub nexts : Nexts c b all out e
       nexts = record {
@@ -281,7 +257,7 @@ module _ {V P : Type 0} (c : Rules V P) (laws : Lawful c) (b : Book) (bounded : 
             let l = g.is_left.inside in
             let h = g.first b.taken (at_first (omega arith)) in
             omega arith;
-        spent = (λ a. let p = s.spent.0 a in (p.0, spent_next (p.1, p.2)), λ p. let h : b.ration ≤ b.taken = p.1 in s.spent.1 (p.0, omega arith, λ j l. let u : b.taken ≤ j = l.untaken in omega arith));
-        ended = (λ a. let p = s.ended.0 a in (p.0, p.1, ended_next p.2), λ p. let h : length all ≤ b.taken = p.2 in s.ended.1 (p.0, p.1, λ j l. let u : b.taken ≤ j = l.untaken in let i : j < length all = l.inside in let no_way : ⊥ = omega arith in no_way));
+        spent = (λ a. let p = s.spent.0 a in (p.0, spent_next (p.1, p.2)), λ p. s.spent.1 (p.0, omega arith, λ j l. omega (arith, l.untaken)));
+        ended = (λ a. let p = s.ended.0 a in (p.0, p.1, ended_next p.2), λ p. s.ended.1 (p.0, p.1, λ j l. omega (arith, l.untaken, l.inside)));
         leaves = λ q a. (refusal_leaves (length all) b e q a (count_stays q a), output_stays q a);
       }

@@ -11,7 +11,7 @@ use Rattle.book.specs.Book.{Book, Outcome, given, refused, Filter, written, one_
 
 -- the book with n tracks taken
 abbrev pub with_taken : Book → ℕ → Book
-with_taken b n = record { limits = b.limits; rung_limit = b.rung_limit; ration = b.ration; rungs = b.rungs; closed = b.closed; taken = n }
+with_taken b n = record b { taken = n }
 
 -- what an output holds after the first m of the tracks us were judged
 abbrev pub last_judged : Ladder → List Track → ℕ → List Step → List Step
@@ -75,7 +75,7 @@ module _ {V P : Type 0} (c : Rules V P) (f : Filter) where
   }
 
   none_turned : (rs : Ladder) (us : List Track) → Turned rs us 0
-  none_turned rs us j k = absurd (let no_way : ⊥ = omega arith in no_way)
+  none_turned rs us j k = absurd (omega arith)
 
   -- nothing is judged
   nothing : (us : List Track) (b : Book) (out : List Step) (q : ℕ) → b.taken ≤ b.ration → Way us b (record { answer = refused q; output = out; book = b }) 0 → Judged us b out (record { answer = refused q; output = out; book = b }) 0

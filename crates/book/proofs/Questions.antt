@@ -1,6 +1,7 @@
 -- Which answer of adding and closing comes when. Assumes nothing.
-use Rattle.std.proofs.Common.{◌≡◌, ℕ, ◌+◌, ◌<◌, Bool, true, false, cond, not, ◌&&◌, ◌||◌, eqb, ltb, leb, ◌↔◌, [], ◌++◌, length, sym, refl, ap, ◌∙◌, arith}
-use Rattle.std.proofs.lemmas.Bool.{false≢true, true≢false, not-true, not-false, not_from_false, not_from_true, ltb-true, ltb-false, leb-true, leb-false, lt-ltb, le-ltb, le-leb, lt-leb}
+use Rattle.std.proofs.Common.{◌≡◌, ℕ, ◌+◌, Bool, true, false, cond, not, ◌&&◌, ◌||◌, ltb, leb, [], ◌++◌, length, refl, ap, ◌∙◌, arith}
+use Rattle.std.proofs.Math.Bool.{or-false, and-false}
+use Rattle.std.proofs.lemmas.Bool.Decides.{nat_tests}
 use Rattle.ladder.specs.Tracks.{Rung}
 use Rattle.book.specs.Book.{Book, Answer, counted, given, refused, accepted, add, close, add_answer, close_answer, adding, closing}
 use Rattle.book.specs.Runs.{Event, brought, closes, taken_after, left_by, Adds, Closes}
@@ -9,75 +10,9 @@ use Rattle.book.specs.Runs.{Event, brought, closes, taken_after, left_by, Adds, 
 pub refused_is : {V : Type 0} {a : Answer V} {p q : ℕ} → a ≡ refused p → a ≡ refused q → p ≡ q
 refused_is {V} {a} {p} {q} x y = cc
 
-pub not_given : {V : Type 0} {a : Answer V} {q k : ℕ} {v : V} → a ≡ refused q → a ≡ given k v → ⊥
-not_given {V} {a} {q} {k} {v} x y = let z : ◌≡◌ {A = ℕ} 0 1 = cc in omega arith
-
-not_counted : {V : Type 0} {a : Answer V} {q n : ℕ} → a ≡ refused q → a ≡ counted n → ⊥
-not_counted {V} {a} {q} {n} x y = let z : ◌≡◌ {A = ℕ} 0 1 = cc in omega arith
-
--- refusals with different numbers differ
-pub apart : {V : Type 0} {a : Answer V} (p q : ℕ) → a ≡ refused p → a ≡ refused q → eqb p q ≡ false → ⊥
-apart {V} {a} p q x y d = false≢true (sym d ∙ ap (λ n. eqb p n) (sym (refused_is x y)) ∙ same p)
-  where
-    same : (n : ℕ) → eqb n n ≡ true
-    same n = Rattle.std.proofs.lemmas.Bool.eq-eqb n n refl
-
--- four questions with the numbers 3 to 6
-module _ {V : Type 0} (a : Answer V) (n : ℕ) where
-  record Four (x y z w : Bool) : Type 0 where
-    done : (a ≡ counted n) ↔ ((x ≡ true) × (y ≡ true) × (z ≡ true) × (w ≡ true))
-    three : (a ≡ refused 3) ↔ (x ≡ false)
-    fourth : (a ≡ refused 4) ↔ ((x ≡ true) × (y ≡ false))
-    five : (a ≡ refused 5) ↔ ((x ≡ true) × (y ≡ true) × (z ≡ false))
-    six : (a ≡ refused 6) ↔ ((x ≡ true) × (y ≡ true) × (z ≡ true) × (w ≡ false))
-
-  four : (x y z w : Bool) → a ≡ cond x (cond y (cond z (cond w (counted n) (refused 6)) (refused 5)) (refused 4)) (refused 3) → Four x y z w
-  four false y z w e = record {
-    done = (λ k. absurd (not_counted e k), λ p. absurd (false≢true p.0));
-    three = (λ k. refl, λ p. e);
-    fourth = (λ k. absurd (apart 3 4 e k refl), λ p. absurd (false≢true p.0));
-    five = (λ k. absurd (apart 3 5 e k refl), λ p. absurd (false≢true p.0));
-    six = (λ k. absurd (apart 3 6 e k refl), λ p. absurd (false≢true p.0));
-  }
-  four true false z w e = record {
-    done = (λ k. absurd (not_counted e k), λ p. absurd (false≢true p.1));
-    three = (λ k. absurd (apart 4 3 e k refl), λ p. absurd (true≢false p));
-    fourth = (λ k. (refl, refl), λ p. e);
-    five = (λ k. absurd (apart 4 5 e k refl), λ p. absurd (false≢true p.1));
-    six = (λ k. absurd (apart 4 6 e k refl), λ p. absurd (false≢true p.1));
-  }
-  four true true false w e = record {
-    done = (λ k. absurd (not_counted e k), λ p. absurd (false≢true p.2));
-    three = (λ k. absurd (apart 5 3 e k refl), λ p. absurd (true≢false p));
-    fourth = (λ k. absurd (apart 5 4 e k refl), λ p. absurd (true≢false p.1));
-    five = (λ k. (refl, refl, refl), λ p. e);
-    six = (λ k. absurd (apart 5 6 e k refl), λ p. absurd (false≢true p.2));
-  }
-  four true true true false e = record {
-    done = (λ k. absurd (not_counted e k), λ p. absurd (false≢true p.3));
-    three = (λ k. absurd (apart 6 3 e k refl), λ p. absurd (true≢false p));
-    fourth = (λ k. absurd (apart 6 4 e k refl), λ p. absurd (true≢false p.1));
-    five = (λ k. absurd (apart 6 5 e k refl), λ p. absurd (true≢false p.2));
-    six = (λ k. (refl, refl, refl, refl), λ p. e);
-  }
-  four true true true true e = record {
-    done = (λ k. (refl, refl, refl, refl), λ p. e);
-    three = (λ k. absurd (not_counted k e), λ p. absurd (true≢false p));
-    fourth = (λ k. absurd (not_counted k e), λ p. absurd (true≢false p.1));
-    five = (λ k. absurd (not_counted k e), λ p. absurd (true≢false p.2));
-    six = (λ k. absurd (not_counted k e), λ p. absurd (true≢false p.3));
-  }
-
-or_false : (x : Bool) → (x || false) ≡ x
-or_false true = refl
-or_false false = refl
-
 -- the book that an answer leaves
 abbrev left_of : {V : Type 0} → ℕ → Book → Event V → Answer V → Book
-left_of n b e a = record {
-  limits = b.limits;
-  rung_limit = b.rung_limit;
-  ration = b.ration;
+left_of n b e a = record b {
   rungs = cond (accepted a) (brought e.call ++ b.rungs) b.rungs;
   closed = b.closed || (accepted a && closes e.call);
   taken = taken_after b n a;
@@ -86,96 +21,59 @@ left_of n b e a = record {
 -- a refusal leaves the book where it leaves the count
 pub refusal_leaves : {V : Type 0} (n : ℕ) (b : Book) (e : Event V) (q : ℕ) → e.answer ≡ refused q → taken_after {V = V} b n (refused q) ≡ b.taken → left_by n b e ≡ b
 refusal_leaves n b e q a t =
-    ap (left_of n b e) a ∙ (λ i. record { limits = b.limits; rung_limit = b.rung_limit; ration = b.ration; rungs = b.rungs; closed = or_false b.closed i; taken = t i })
+    ap (left_of n b e) a ∙ (λ i. record b { closed = or-false b.closed i; taken = t i })
 
 cond_same : {X : Type 0} (t : Bool) (x : X) → cond t x x ≡ x
 cond_same true x = refl
 cond_same false x = refl
 
-and_false : (x : Bool) → (x && false) ≡ false
-and_false true = refl
-and_false false = refl
-
 -- asking for a track leaves all but the count
-pub asking_leaves : {V : Type 0} (n : ℕ) (b : Book) (e : Event V) (t : ℕ) → brought e.call ≡ [] → closes e.call ≡ false → taken_after b n e.answer ≡ t → left_by n b e ≡ record { limits = b.limits; rung_limit = b.rung_limit; ration = b.ration; rungs = b.rungs; closed = b.closed; taken = t }
+pub asking_leaves : {V : Type 0} (n : ℕ) (b : Book) (e : Event V) (t : ℕ) → brought e.call ≡ [] → closes e.call ≡ false → taken_after b n e.answer ≡ t → left_by n b e ≡ record b { taken = t }
 asking_leaves n b e t none stays is =
     let rs : cond (accepted e.answer) (brought e.call ++ b.rungs) b.rungs ≡ b.rungs = ap (λ xs. cond (accepted e.answer) (xs ++ b.rungs) b.rungs) none ∙ cond_same (accepted e.answer) b.rungs in
-    let cl : (b.closed || (accepted e.answer && closes e.call)) ≡ b.closed = ap (λ x. b.closed || (accepted e.answer && x)) stays ∙ ap (λ x. b.closed || x) (and_false (accepted e.answer)) ∙ or_false b.closed in
-    λ i. record { limits = b.limits; rung_limit = b.rung_limit; ration = b.ration; rungs = rs i; closed = cl i; taken = is i }
+    let cl : (b.closed || (accepted e.answer && closes e.call)) ≡ b.closed = ap (λ x. b.closed || (accepted e.answer && x)) stays ∙ ap (λ x. b.closed || x) (and-false (accepted e.answer)) ∙ or-false b.closed in
+    λ i. record b { rungs = rs i; closed = cl i; taken = is i }
 
 module _ {V : Type 0} (b : Book) (n : ℕ) (r : Rung) (e : Event V) (call_is : e.call ≡ add r) (ea : e.answer ≡ add_answer b r) where
   abbrev room : Bool
   room = ltb (length b.rungs) b.rung_limit
 
-  told : Four e.answer (length b.rungs + 1) (not b.closed) room (ltb 0 (length r)) (leb (length r) 16)
-  told = four e.answer (length b.rungs + 1) (not b.closed) room (ltb 0 (length r)) (leb (length r) 16) ea
-
-  -- which number a refusal of adding can have
-  refused_by : (x y z w : Bool) (q : ℕ) → ◌≡◌ {A = Answer V} (refused q) (cond x (cond y (cond z (cond w (counted (length b.rungs + 1)) (refused 6)) (refused 5)) (refused 4)) (refused 3)) → taken_after {V = V} b n (refused q) ≡ b.taken
-  refused_by false y z w q k = ap (λ m. taken_after {V = V} b n (refused m)) (refused_is {V = V} refl k)
-  refused_by true false z w q k = ap (λ m. taken_after {V = V} b n (refused m)) (refused_is {V = V} refl k)
-  refused_by true true false w q k = ap (λ m. taken_after {V = V} b n (refused m)) (refused_is {V = V} refl k)
-  refused_by true true true false q k = ap (λ m. taken_after {V = V} b n (refused m)) (refused_is {V = V} refl k)
-  refused_by true true true true q k = absurd (not_counted {V = V} refl k)
+  -- a refusal of adding leaves the count of taken tracks
+  count_stays : (q : ℕ) → e.answer ≡ refused q → taken_after {V = V} b n (refused q) ≡ b.taken
+  count_stays q k = grind (arith, nat_tests)
 
   pub adds : Adds b n r e
   adds = record {
-    done = (λ k. let p = told.done.0 k in (not-true b.closed p.0, ltb-true (length b.rungs) b.rung_limit p.1, ltb-true 0 (length r) p.2, leb-true (length r) 16 p.3), λ p. told.done.1 (not_from_false b.closed p.0, lt-ltb (length b.rungs) b.rung_limit p.1, lt-ltb 0 (length r) p.2, le-leb (length r) 16 p.3));
-    shut = (λ k. not-false b.closed (told.three.0 k), λ p. told.three.1 (not_from_true b.closed p));
-    full = (λ k. let p = told.fourth.0 k in (not-true b.closed p.0, ltb-false (length b.rungs) b.rung_limit p.1), λ p. told.fourth.1 (not_from_false b.closed p.0, le-ltb (length b.rungs) b.rung_limit p.1));
-    none = (λ k. let p = told.five.0 k in (not-true b.closed p.0, ltb-true (length b.rungs) b.rung_limit p.1, omega (arith, ltb-false 0 (length r) p.2)), λ p. told.five.1 (not_from_false b.closed p.0, lt-ltb (length b.rungs) b.rung_limit p.1, le-ltb 0 (length r) (let z : length r ≡ 0 = p.2 in omega arith)));
-    many = (λ k. let p = told.six.0 k in (not-true b.closed p.0, ltb-true (length b.rungs) b.rung_limit p.1, leb-false (length r) 16 p.3), λ p. told.six.1 (not_from_false b.closed p.0, lt-ltb (length b.rungs) b.rung_limit p.1, lt-ltb 0 (length r) (let z : 16 < length r = p.2 in omega arith), lt-leb (length r) 16 p.2));
-    leaves = λ q k. refusal_leaves n b e q k (refused_by (not b.closed) room (ltb 0 (length r)) (leb (length r) 16) q (sym k ∙ ea));
+    done = (λ k. grind (arith, nat_tests), λ p. grind (arith, nat_tests));
+    shut = (λ k. grind (arith, nat_tests), λ p. grind (arith, nat_tests));
+    full = (λ k. grind (arith, nat_tests), λ p. grind (arith, nat_tests));
+    none = (λ k. grind (arith, nat_tests), λ p. grind (arith, nat_tests));
+    many = (λ k. grind (arith, nat_tests), λ p. grind (arith, nat_tests));
+    leaves = λ q k. refusal_leaves n b e q k (count_stays q k);
   }
 
   -- what adding leaves, told from its answer, is the book after
   add_left : (x y z w : Bool) → left_of n b e (cond x (cond y (cond z (cond w (counted (length b.rungs + 1)) (refused 6)) (refused 5)) (refused 4)) (refused 3)) ≡ cond (accepted {V = V} (cond x (cond y (cond z (cond w (counted (length b.rungs + 1)) (refused 6)) (refused 5)) (refused 4)) (refused 3))) (Rattle.book.specs.Book.with_rung b r) b
-  add_left false y z w i = record { limits = b.limits; rung_limit = b.rung_limit; ration = b.ration; rungs = b.rungs; closed = or_false b.closed i; taken = b.taken }
-  add_left true false z w i = record { limits = b.limits; rung_limit = b.rung_limit; ration = b.ration; rungs = b.rungs; closed = or_false b.closed i; taken = b.taken }
-  add_left true true false w i = record { limits = b.limits; rung_limit = b.rung_limit; ration = b.ration; rungs = b.rungs; closed = or_false b.closed i; taken = b.taken }
-  add_left true true true false i = record { limits = b.limits; rung_limit = b.rung_limit; ration = b.ration; rungs = b.rungs; closed = or_false b.closed i; taken = b.taken }
-  add_left true true true true i = record {
-    limits = b.limits;
-    rung_limit = b.rung_limit;
-    ration = b.ration;
-    rungs = brought (call_is i) ++ b.rungs;
-    closed = (ap (λ k. b.closed || closes k) call_is ∙ or_false b.closed) i;
-    taken = b.taken;
-  }
+  add_left false y z w i = record b { closed = or-false b.closed i }
+  add_left true false z w i = record b { closed = or-false b.closed i }
+  add_left true true false w i = record b { closed = or-false b.closed i }
+  add_left true true true false i = record b { closed = or-false b.closed i }
+  add_left true true true true i = record b { rungs = brought (call_is i) ++ b.rungs; closed = (ap (λ k. b.closed || closes k) call_is ∙ or-false b.closed) i }
 
   pub add_leaves : left_by n b e ≡ (adding {V = V} b r).book
   add_leaves = ap (left_of n b e) ea ∙ add_left (not b.closed) room (ltb 0 (length r)) (leb (length r) 16)
 
 module _ {V : Type 0} (b : Book) (n : ℕ) (e : Event V) (call_is : e.call ≡ close) (ea : e.answer ≡ close_answer b) where
-  closed_by : (x : Bool) → b.closed ≡ x → Closes b n e
-  closed_by true h =
-      let a : e.answer ≡ refused 3 = ea ∙ ap (λ x. cond (not x) (counted (length b.rungs)) (refused 3)) h in
-      record {
-        done = (λ k. absurd (not_counted a k), λ p. absurd (false≢true (sym p ∙ h)));
-        shut = (λ k. h, λ p. a);
-        leaves = λ q k. refusal_leaves n b e q k (ap (λ m. taken_after {V = V} b n (refused m)) (refused_is k a));
-      }
-  closed_by false h =
-      let a : e.answer ≡ counted (length b.rungs) = ea ∙ ap (λ x. cond (not x) (counted (length b.rungs)) (refused 3)) h in
-      record {
-        done = (λ k. h, λ p. a);
-        shut = (λ k. absurd (not_counted k a), λ p. absurd (false≢true (sym h ∙ p)));
-        leaves = λ q k. absurd (not_counted k a);
-      }
-
   pub closes_it : Closes b n e
-  closes_it = closed_by b.closed refl
+  closes_it = record {
+    done = (λ k. grind arith, λ p. grind arith);
+    shut = (λ k. grind arith, λ p. grind arith);
+    leaves = λ q k. refusal_leaves n b e q k (let none : taken_after {V = V} b n (refused q) ≡ b.taken = grind arith in none);
+  }
 
   close_left : (x : Bool) → b.closed ≡ x → left_of n b e (cond (not x) (counted (length b.rungs)) (refused 3)) ≡ cond (accepted {V = V} (cond (not x) (counted (length b.rungs)) (refused 3))) (Rattle.book.specs.Book.shut b) b
-  close_left true h i = record { limits = b.limits; rung_limit = b.rung_limit; ration = b.ration; rungs = b.rungs; closed = or_false b.closed i; taken = b.taken }
-  close_left false h i = record {
-    limits = b.limits;
-    rung_limit = b.rung_limit;
-    ration = b.ration;
-    rungs = brought (call_is i) ++ b.rungs;
-    closed = (ap (λ k. b.closed || closes k) call_is ∙ ap (λ x. x || true) h) i;
-    taken = b.taken;
-  }
+  close_left true h i = record b { closed = or-false b.closed i }
+  close_left false h i = record b { rungs = brought (call_is i) ++ b.rungs; closed = (ap (λ k. b.closed || closes k) call_is ∙ ap (λ x. x || true) h) i }
 
   pub close_leaves : left_by n b e ≡ (closing {V = V} b).book
   close_leaves = ap (left_of n b e) ea ∙ close_left b.closed refl

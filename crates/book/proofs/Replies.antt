@@ -1,6 +1,6 @@
 -- What each way out of a call is, over any book. Assumes nothing.
-use Rattle.std.proofs.Common.{◌≡◌, ℕ, ◌+◌, ◌<◌, ◌≤◌, true, false, cond, ltb, List, [], length, get_or, sym, ap, arith}
-use Rattle.std.proofs.lemmas.Bool.{lt-ltb, le-ltb, le-leb, lt-leb}
+use Rattle.std.proofs.Common.{◌≡◌, ℕ, ◌+◌, ◌<◌, ◌≤◌, true, false, cond, List, [], length, get_or, sym, ap, arith}
+use Rattle.std.proofs.lemmas.Bool.Decides.{nat_tests}
 use Rattle.ladder.specs.declared.poses.Step.{Step}
 use Rattle.ladder.specs.Rules.{Rules}
 use Rattle.ladder.specs.Tracks.{Rung, Track, steps, cost}
@@ -11,24 +11,16 @@ module _ {V : Type 0} (b : Book) (r : Rung) where
   add_closed o = rw o
 
   pub add_full : b.closed ≡ false → b.rung_limit ≤ length b.rungs → add_answer {V = V} b r ≡ refused 4
-  add_full o h = let e = le-ltb (length b.rungs) b.rung_limit h in rw (o, e)
+  add_full o h = grind (arith, nat_tests)
 
   pub add_none : b.closed ≡ false → length b.rungs < b.rung_limit → length r ≡ 0 → add_answer {V = V} b r ≡ refused 5
-  add_none o h z = let e = lt-ltb (length b.rungs) b.rung_limit h in rw (o, e, z)
+  add_none o h z = grind (arith, nat_tests)
 
   pub add_many : b.closed ≡ false → length b.rungs < b.rung_limit → 16 < length r → add_answer {V = V} b r ≡ refused 6
-  add_many o h m =
-      let e = lt-ltb (length b.rungs) b.rung_limit h in
-      let p : ltb 0 (length r) ≡ true = lt-ltb 0 (length r) (omega arith) in
-      let q = lt-leb (length r) 16 m in
-      rw (o, e, p, q)
+  add_many o h m = grind (arith, nat_tests)
 
   pub add_done : b.closed ≡ false → length b.rungs < b.rung_limit → 0 < length r → length r ≤ 16 → add_answer {V = V} b r ≡ counted (length b.rungs + 1)
-  add_done o h s t =
-      let e = lt-ltb (length b.rungs) b.rung_limit h in
-      let p = lt-ltb 0 (length r) s in
-      let q = le-leb (length r) 16 t in
-      rw (o, e, p, q)
+  add_done o h s t = grind (arith, nat_tests)
 
   -- a refusal leaves the book
   pub adding_refused : (n : ℕ) → add_answer {V = V} b r ≡ refused n → record { answer = refused n; output = []; book = b } ≡ adding {V = V} b r
@@ -49,27 +41,16 @@ module _ {V P : Type 0} (c : Rules V P) (b : Book) (ts : List Track) (out : List
   next_open o = rw o
 
   pub next_short : b.closed ≡ true → length out < length b.rungs → next_answer c b ts (length out) ≡ refused 8
-  next_short o h = let e = lt-leb (length b.rungs) (length out) h in rw (o, e)
+  next_short o h = grind (arith, nat_tests)
 
   pub next_spent : b.closed ≡ true → length b.rungs ≤ length out → b.ration ≤ b.taken → next_answer c b ts (length out) ≡ refused 9
-  next_spent o h r =
-      let e = le-leb (length b.rungs) (length out) h in
-      let f = le-ltb b.taken b.ration r in
-      rw (o, e, f)
+  next_spent o h r = grind (arith, nat_tests)
 
   pub next_ended : b.closed ≡ true → length b.rungs ≤ length out → b.taken < b.ration → length ts ≤ b.taken → next_answer c b ts (length out) ≡ refused 10
-  next_ended o h r l =
-      let e = le-leb (length b.rungs) (length out) h in
-      let f = lt-ltb b.taken b.ration r in
-      let g = le-ltb b.taken (length ts) l in
-      rw (o, e, f, g)
+  next_ended o h r l = grind (arith, nat_tests)
 
   pub next_found : b.closed ≡ true → length b.rungs ≤ length out → b.taken < b.ration → b.taken < length ts → next_answer c b ts (length out) ≡ given (b.taken + 1) (cost c b.rungs (get_or ts b.taken []))
-  next_found o h r l =
-      let e = le-leb (length b.rungs) (length out) h in
-      let f = lt-ltb b.taken b.ration r in
-      let g = lt-ltb b.taken (length ts) l in
-      rw (o, e, f, g)
+  next_found o h r l = grind (arith, nat_tests)
 
   -- a refusal leaves the output and the book
   pub nexting_refused : (n : ℕ) → next_answer c b ts (length out) ≡ refused n → record { answer = refused n; output = out; book = b } ≡ nexting_of c b ts out

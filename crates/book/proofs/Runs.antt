@@ -1,6 +1,6 @@
 -- Every run keeps what is promised. Assumes nothing.
 use Rattle.std.proofs.Common.{◌≡◌, ℕ, ◌+◌, ◌≤◌, Bool, true, false, cond, not, ltb, leb, List, [], ◌∷◌, length, sym, refl, ap, ◌∙◌, subst, arith}
-use Rattle.std.proofs.lemmas.Bool.{false≢true, ltb-true}
+use Rattle.std.proofs.lemmas.Bool.{false≢true, not-true, ltb-true}
 use Rattle.ladder.specs.declared.poses.Step.{Step}
 use Rattle.ladder.specs.Rules.{Rules, Lawful}
 use Rattle.ladder.specs.Tracks.{Rung, Bounded}
@@ -49,7 +49,7 @@ module _ {V P : Type 0} (c : Rules V P) (laws : Lawful c) (b : Book) (w : Whole 
   add_whole r true true false u hx hy = w
   add_whole r true true true false hx hy = w
   add_whole r true true true true hx hy =
-      let none : b.taken ≡ 0 = w.untouched (Rattle.std.proofs.lemmas.Bool.not-true b.closed hx) in
+      let none : b.taken ≡ 0 = w.untouched (not-true b.closed hx) in
       record {
         bounded = w.bounded;
         limited = w.limited;

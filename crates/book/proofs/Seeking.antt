@@ -1,6 +1,6 @@
 -- Seeking as next that is judged and goes on. Assumes nothing.
-use Rattle.std.proofs.Common.{◌≡◌, ℕ, suc, ◌+◌, ◌<◌, ◌≤◌, Bool, true, false, cond, ltb, leb, ◌⊎◌, List, [], ◌∷◌, length, get_or, take, drop, sym, refl, ap, ◌∙◌, inl, inr, add-one, arith, length-drop, drop-cons}
-use Rattle.std.proofs.lemmas.List.{take_at}
+use Rattle.std.proofs.Common.{◌≡◌, ℕ, suc, ◌+◌, ◌<◌, ◌≤◌, Bool, true, false, cond, ltb, leb, List, [], ◌∷◌, length, get_or, take, drop, sym, refl, ap, ◌∙◌, ⊎_elim, add-one, arith, drop-cons}
+use Rattle.std.proofs.lemmas.List.{take_at, drop_all}
 use Rattle.std.proofs.lemmas.Bool.{leb-true, le-leb, lt-ltb, le-ltb, cases_lt}
 use Rattle.ladder.specs.declared.poses.Step.{Step}
 use Rattle.ladder.specs.Rules.{Rules}
@@ -9,23 +9,14 @@ use Rattle.ladder.specs.Listed.{tracks_of}
 use Rattle.book.specs.Book.{Book, Outcome, Answer, given, refused, accepted, Filter, written, one_taken, judging, seeking, seeking_of, nexting, nexting_of}
 use Rattle.book.specs.Runs.{any}
 use Rattle.book.proofs.Judging.{length_written}
-use Rattle.book.proofs.Questions.{not_given}
 
 -- what is left of a list from a place on: nothing, or what stands there and the rest
 pub data From (ts : List Track) (n : ℕ) : Type 0 where
   past : drop n ts ≡ [] → ltb n (length ts) ≡ false → From ts n
   there : drop n ts ≡ get_or ts n [] ∷ drop (suc n) ts → ltb n (length ts) ≡ true → n < length ts → From ts n
 
-empty : (ts : List Track) → length ts ≡ 0 → ts ≡ []
-empty [] h = refl
-empty (t ∷ ts) h = absurd (let no_way : ⊥ = omega arith in no_way)
-
 pub from : (ts : List Track) (n : ℕ) → From ts n
-from ts n = step (cases_lt n (length ts))
-  where
-    step : (n < length ts) ⊎ (length ts ≤ n) → From ts n
-    step (inl h) = there (drop-cons ts n [] h) (lt-ltb n (length ts) h) h
-    step (inr h) = past (empty (drop n ts) (omega (arith, length-drop n ts))) (le-ltb n (length ts) h)
+from ts n = ⊎_elim (λ h. there (drop-cons ts n [] h) (lt-ltb n (length ts) h) h) (λ h. past (drop_all n ts h) (le-ltb n (length ts) h)) (cases_lt n (length ts))
 
 module _ {V P : Type 0} (c : Rules V P) (b : Book) (ts : List Track) (out : List Step) where
   -- the first untaken track and its steps
@@ -46,22 +37,15 @@ module _ {V P : Type 0} (c : Rules V P) (b : Book) (ts : List Track) (out : List
     book = cond (accepted (nexted x y z w)) (one_taken b) b;
   }
 
-  -- judging where a track stands first
-  judging_one : (f : Filter) → drop b.taken ts ≡ track ∷ drop (suc b.taken) ts → judging c f (drop b.taken ts) b out ≡ cond (ltb b.taken b.ration) (cond (f shown) (record { answer = given (b.taken + 1) (cost c b.rungs track); output = written shown out; book = one_taken b }) (judging c f (drop (suc b.taken) ts) (one_taken b) (written shown out))) (record { answer = refused 9; output = out; book = b })
-  judging_one f e = ap (λ us. judging c f us b out) e
-
-  judging_none : (f : Filter) → drop b.taken ts ≡ [] → judging c f (drop b.taken ts) b out ≡ record { answer = cond (ltb b.taken b.ration) (refused 10) (refused 9); output = out; book = b }
-  judging_none f e = ap (λ us. judging c f us b out) e
-
   -- a refusal of next is one of seeking
   refused_by : (f : Filter) (x y z w : Bool) (q : ℕ) → (by_next x y z w).answer ≡ refused q → ltb b.taken b.ration ≡ z → ltb b.taken (length ts) ≡ w → From ts b.taken → cond x (cond y (judging c f (drop b.taken ts) b out) (record { answer = refused 8; output = out; book = b })) (record { answer = refused 7; output = out; book = b }) ≡ by_next x y z w
   refused_by f false y z w q a hz hw fr = refl
   refused_by f true false z w q a hz hw fr = refl
-  refused_by f true true true true q a hz hw fr = absurd (not_given a refl)
-  refused_by f true true false w q a hz hw (past e l) = judging_none f e ∙ ap (λ u. record { answer = cond u (refused 10) (refused 9); output = out; book = b }) hz
-  refused_by f true true false w q a hz hw (there e l k) = judging_one f e ∙ ap (λ u. cond u (cond (f shown) (record { answer = given (b.taken + 1) (cost c b.rungs track); output = written shown out; book = one_taken b }) (judging c f (drop (suc b.taken) ts) (one_taken b) (written shown out))) (record { answer = refused 9; output = out; book = b })) hz
-  refused_by f true true true false q a hz hw (past e l) = judging_none f e ∙ ap (λ u. record { answer = cond u (refused 10) (refused 9); output = out; book = b }) hz
-  refused_by f true true true false q a hz hw (there e l k) = absurd (Rattle.std.proofs.lemmas.Bool.false≢true (sym hw ∙ l))
+  refused_by f true true true true q a hz hw fr = cc
+  refused_by f true true false w q a hz hw (past e l) = rw (e, hz)
+  refused_by f true true false w q a hz hw (there e l k) = rw (e, hz)
+  refused_by f true true true false q a hz hw (past e l) = rw (e, hz)
+  refused_by f true true true false q a hz hw (there e l k) = cc
 
   pub seek_refused : (f : Filter) (q : ℕ) → (nexting_of c b ts out).answer ≡ refused q → seeking_of c b ts f out ≡ nexting_of c b ts out
   seek_refused f q a = refused_by f b.closed (leb (length b.rungs) (length out)) (ltb b.taken b.ration) (ltb b.taken (length ts)) q a refl refl (from ts b.taken)
@@ -78,21 +62,14 @@ module _ {V P : Type 0} (c : Rules V P) (b : Book) (ts : List Track) (out : List
         let wide : length (written shown out) ≡ length out = length_written shown out (omega arith) in
         let hy' : leb (length b.rungs) (length (written shown out)) ≡ true = le-leb (length b.rungs) (length (written shown out)) (omega arith) in
         let cut : take (length b.rungs) (written shown out) ≡ shown = take_at shown (drop (length shown) out) (length b.rungs) l in
-        let rest : judging c f (drop (suc b.taken) ts) (one_taken b) (written shown out) ≡ seeking_of c (one_taken b) ts f (written shown out) =
-        ap (λ n. judging c f (drop n ts) (one_taken b) (written shown out)) (sym (add-one b.taken))
-        ∙ sym (ap (λ u. cond u (judging c f (drop (b.taken + 1) ts) (one_taken b) (written shown out)) (record { answer = refused 8; output = written shown out; book = one_taken b })) hy')
-        ∙ sym (ap (λ u. cond u (cond (leb (length b.rungs) (length (written shown out))) (judging c f (drop (b.taken + 1) ts) (one_taken b) (written shown out)) (record { answer = refused 8; output = written shown out; book = one_taken b })) (record { answer = refused 7; output = written shown out; book = one_taken b })) hx) in
-        judging_one f e
-        ∙ ap (λ u. cond u (cond (f shown) (record { answer = given (b.taken + 1) (cost c b.rungs track); output = written shown out; book = one_taken b }) (judging c f (drop (suc b.taken) ts) (one_taken b) (written shown out))) (record { answer = refused 9; output = out; book = b })) hz
-        ∙ ap (λ (o : Outcome V). cond (f shown) (record { answer = given (b.taken + 1) (cost c b.rungs track); output = written shown out; book = one_taken b }) o) rest
-        ∙ ap (λ ss. cond (f ss) (record { answer = given (b.taken + 1) (cost c b.rungs track); output = written shown out; book = one_taken b }) (seeking_of c (one_taken b) ts f (written shown out))) (sym cut)
+        rw (e, hz, cut, hx, hy', add-one b.taken)
 
     given_by : (x y z w : Bool) (k : ℕ) (v : V) → (by_next x y z w).answer ≡ given k v → b.closed ≡ x → leb (length b.rungs) (length out) ≡ y → ltb b.taken b.ration ≡ z → ltb b.taken (length ts) ≡ w → From ts b.taken → cond x (cond y (judging c f (drop b.taken ts) b out) (record { answer = refused 8; output = out; book = b })) (record { answer = refused 7; output = out; book = b }) ≡ go_on (by_next x y z w)
-    given_by false y z w k v a hx hy hz hw fr = absurd (not_given refl a)
-    given_by true false z w k v a hx hy hz hw fr = absurd (not_given refl a)
-    given_by true true false w k v a hx hy hz hw fr = absurd (not_given refl a)
-    given_by true true true false k v a hx hy hz hw fr = absurd (not_given refl a)
-    given_by true true true true k v a hx hy hz hw (past e l) = absurd (Rattle.std.proofs.lemmas.Bool.false≢true (sym l ∙ hw))
+    given_by false y z w k v a hx hy hz hw fr = cc
+    given_by true false z w k v a hx hy hz hw fr = cc
+    given_by true true false w k v a hx hy hz hw fr = cc
+    given_by true true true false k v a hx hy hz hw fr = cc
+    given_by true true true true k v a hx hy hz hw (past e l) = cc
     given_by true true true true k v a hx hy hz hw (there e l h) = found hx hy hz e h
 
     pub seek_given : (k : ℕ) (v : V) → (nexting_of c b ts out).answer ≡ given k v → seeking_of c b ts f out ≡ go_on (nexting_of c b ts out)
@@ -104,9 +81,8 @@ module _ {V P : Type 0} (c : Rules V P) (b : Book) (ts : List Track) (out : List
   any_by true false z w hz hw fr = refl
   any_by true true false w hz hw fr = sym (refused_by any true true false w 9 refl hz hw fr)
   any_by true true true false hz hw fr = sym (refused_by any true true true false 10 refl hz hw fr)
-  any_by true true true true hz hw (past e l) = absurd (Rattle.std.proofs.lemmas.Bool.false≢true (sym l ∙ hw))
-  any_by true true true true hz hw (there e l h) =
-      sym (judging_one any e ∙ ap (λ u. cond u (record { answer = given (b.taken + 1) (cost c b.rungs track); output = written shown out; book = one_taken b }) (record { answer = refused 9; output = out; book = b })) hz)
+  any_by true true true true hz hw (past e l) = cc
+  any_by true true true true hz hw (there e l h) = rw (e, hz)
 
   pub next_is_seek : nexting_of c b ts out ≡ seeking_of c b ts any out
   next_is_seek = any_by b.closed (leb (length b.rungs) (length out)) (ltb b.taken b.ration) (ltb b.taken (length ts)) refl refl (from ts b.taken)

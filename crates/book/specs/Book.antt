@@ -1,5 +1,5 @@
 -- The plain book of a resolver: what each call answers, writes and changes. Assumes nothing.
-use Rattle.std.specs.Prelude.{ℕ, ◌+◌, ◌*◌, Bool, true, false, cond, not, ◌&&◌, List, [], ◌∷◌, ◌++◌, length, drop, nat_le, nat_lt, slice_index_or}
+use Rattle.std.specs.Prelude.{ℕ, ◌+◌, ◌*◌, Bool, true, false, if◌then◌else◌, not, ◌&&◌, List, [], ◌∷◌, ◌++◌, length, drop, nat_le, nat_lt, slice_index_or}
 use Rattle.ladder.specs.declared.poses.Step.{Step}
 use Rattle.ladder.specs.declared.poses.Limits.{Limits}
 use Rattle.ladder.specs.Rules.{Rules}
@@ -31,7 +31,7 @@ pub record Outcome (V : Type 0) : Type 0 where
 -- questions in their order, each with its number: the first no answers its number, and where there is none the answer is a
 abbrev pub first_no : {V : Type 0} → List (Bool × ℕ) → Answer V → Answer V
 first_no [] a = a
-first_no (q ∷ qs) a = cond q.0 (first_no qs a) (refused q.1)
+first_no (q ∷ qs) a = if q.0 then first_no qs a else refused q.1
 
 -- the answer is no refusal
 abbrev pub accepted : {V : Type 0} → Answer V → Bool
@@ -56,49 +56,55 @@ new_book l limit ration = record { limits = l; rung_limit = limit; ration = rati
 -- the book that opening makes: numbers and tables that the sizes call refuses give a rung limit of 0 and a ration of 1
 abbrev pub opened : Limits → ℕ → ℕ → ℕ → ℕ → ℕ → Book
 opened l limit ration poses ranked candidates =
-    cond (accepted (sizing {V = ℕ} limit ration poses ranked candidates)) (new_book l limit ration) (new_book l 0 1)
+    if accepted (sizing {V = ℕ} limit ration poses ranked candidates) then new_book l limit ration else new_book l 0 1
 
--- the book with one rung more, closed, and with one track more taken
+-- the book with one rung more
 abbrev pub with_rung : Book → Rung → Book
-with_rung b r = record { limits = b.limits; rung_limit = b.rung_limit; ration = b.ration; rungs = r ∷ b.rungs; closed = b.closed; taken = b.taken }
+with_rung b r = record b { rungs = r ∷ b.rungs }
 
+-- the book, closed
 abbrev pub shut : Book → Book
-shut b = record { limits = b.limits; rung_limit = b.rung_limit; ration = b.ration; rungs = b.rungs; closed = true; taken = b.taken }
+shut b = record b { closed = true }
 
+-- the book with one track more taken
 abbrev pub one_taken : Book → Book
-one_taken b = record { limits = b.limits; rung_limit = b.rung_limit; ration = b.ration; rungs = b.rungs; closed = b.closed; taken = b.taken + 1 }
+one_taken b = record b { taken = b.taken + 1 }
 
--- adding a rung from a source's list
+-- what adding a rung from a source's list answers
 abbrev pub add_answer : {V : Type 0} → Book → Rung → Answer V
 add_answer b r =
     first_no ((not b.closed, 3) ∷ (nat_lt (length b.rungs) b.rung_limit, 4) ∷ (nat_lt 0 (length r), 5) ∷ (nat_le (length r) 16, 6) ∷ []) (counted (length b.rungs + 1))
 
+-- adding: an accepted one appends its rung
 abbrev pub adding : {V : Type 0} → Book → Rung → Outcome V
-adding {V} b r = record { answer = add_answer b r; output = []; book = cond (accepted (add_answer {V = V} b r)) (with_rung b r) b }
+adding {V} b r = record { answer = add_answer b r; output = []; book = if accepted (add_answer {V = V} b r) then with_rung b r else b }
 
--- closing
+-- what closing answers
 abbrev pub close_answer : {V : Type 0} → Book → Answer V
 close_answer b = first_no ((not b.closed, 3) ∷ []) (counted (length b.rungs))
 
+-- closing: an accepted one closes
 abbrev pub closing : {V : Type 0} → Book → Outcome V
-closing {V} b = record { answer = close_answer b; output = []; book = cond (accepted (close_answer {V = V} b)) (shut b) b }
+closing {V} b = record { answer = close_answer b; output = []; book = if accepted (close_answer {V = V} b) then shut b else b }
 
 -- steps written to the first places of an output; the later places stay
 abbrev pub written : List Step → List Step → List Step
 written ss out = ss ++ drop (length ss) out
 
--- next, where ts is the list of the ladder: its first untaken track
+-- what next answers, where ts is the list of the ladder: its first untaken track
 abbrev pub next_answer : {V P : Type 0} → Rules V P → Book → List Track → ℕ → Answer V
 next_answer c b ts places =
     first_no ((b.closed, 7) ∷ (nat_le (length b.rungs) places, 8) ∷ (nat_lt b.taken b.ration, 9) ∷ (nat_lt b.taken (length ts), 10) ∷ []) (given (b.taken + 1) (cost c b.rungs (slice_index_or ts b.taken [])))
 
+-- next, likewise: an accepted one writes the track's steps and takes it
 abbrev pub nexting_of : {V P : Type 0} → Rules V P → Book → List Track → List Step → Outcome V
 nexting_of c b ts out = record {
   answer = next_answer c b ts (length out);
-  output = cond (accepted (next_answer c b ts (length out))) (written (steps b.rungs (slice_index_or ts b.taken [])) out) out;
-  book = cond (accepted (next_answer c b ts (length out))) (one_taken b) b;
+  output = if accepted (next_answer c b ts (length out)) then written (steps b.rungs (slice_index_or ts b.taken [])) out else out;
+  book = if accepted (next_answer c b ts (length out)) then one_taken b else b;
 }
 
+-- next, over the list of the book's own ladder
 abbrev pub nexting : {V P : Type 0} → Rules V P → Book → List Step → Outcome V
 nexting c b out = nexting_of c b (tracks_of c b.limits b.rungs) out
 
@@ -110,13 +116,17 @@ Filter = List Step → Bool
 abbrev pub judging : {V P : Type 0} → Rules V P → Filter → List Track → Book → List Step → Outcome V
 judging c f [] b out = record { answer = first_no ((nat_lt b.taken b.ration, 9) ∷ []) (refused 10); output = out; book = b }
 judging c f (u ∷ us) b out =
-    cond (nat_lt b.taken b.ration) (cond (f (steps b.rungs u)) (record { answer = given (b.taken + 1) (cost c b.rungs u); output = written (steps b.rungs u) out; book = one_taken b }) (judging c f us (one_taken b) (written (steps b.rungs u) out))) (record { answer = refused 9; output = out; book = b })
+    let shown = written (steps b.rungs u) out in
+    let judged = if f (steps b.rungs u) then record { answer = given (b.taken + 1) (cost c b.rungs u); output = shown; book = one_taken b } else judging c f us (one_taken b) shown in
+    if nat_lt b.taken b.ration then judged else record { answer = refused 9; output = out; book = b }
 
 -- seeking with a filter, where ts is the list of the ladder
 abbrev pub seeking_of : {V P : Type 0} → Rules V P → Book → List Track → Filter → List Step → Outcome V
 seeking_of c b ts f out =
-    cond b.closed (cond (nat_le (length b.rungs) (length out)) (judging c f (drop b.taken ts) b out) (record { answer = refused 8; output = out; book = b })) (record { answer = refused 7; output = out; book = b })
+    let judged = if nat_le (length b.rungs) (length out) then judging c f (drop b.taken ts) b out else record { answer = refused 8; output = out; book = b } in
+    if b.closed then judged else record { answer = refused 7; output = out; book = b }
 
+-- seeking, likewise
 abbrev pub seeking : {V P : Type 0} → Rules V P → Book → Filter → List Step → Outcome V
 seeking c b f out = seeking_of c b (tracks_of c b.limits b.rungs) f out
 

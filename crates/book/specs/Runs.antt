@@ -1,5 +1,5 @@
 -- Runs: calls made one after another, each finding what those before it left, and what is promised of every run. Assumes nothing.
-use Rattle.std.specs.Prelude.{◌≡◌, ℕ, ◌+◌, ◌-◌, ◌<◌, ◌≤◌, Bool, true, false, cond, ◌&&◌, ◌||◌, ◌↔◌, List, [], ◌∷◌, ◌++◌, length, ◌==◌, nat_lt, slice_index_or}
+use Rattle.std.specs.Prelude.{◌≡◌, ℕ, ◌+◌, ◌-◌, ◌<◌, ◌≤◌, Bool, true, false, if◌then◌else◌, ◌&&◌, ◌||◌, ◌↔◌, List, [], ◌∷◌, ◌++◌, length, ◌==◌, nat_lt, slice_index_or}
 use Rattle.std.specs.Ordering.{is_le}
 use Rattle.ladder.specs.declared.poses.Step.{Step}
 use Rattle.ladder.specs.declared.poses.Limits.{Limits}
@@ -38,15 +38,12 @@ abbrev pub taken_after : {V : Type 0} → Book → ℕ → Answer V → ℕ
 taken_after b n fine = b.taken
 taken_after b n (counted m) = b.taken
 taken_after b n (given k v) = k
-taken_after b n (refused q) = cond (q == 9) b.ration (cond (q == 10) n b.taken)
+taken_after b n (refused q) = if q == 9 then b.ration else (if q == 10 then n else b.taken)
 
 -- what a call leaves, told from its answer: an accepted adding puts its rung on the ladder, an accepted closing closes it, and a refusal leaves ladder and closing as they were
 abbrev pub left_by : {V : Type 0} → ℕ → Book → Event V → Book
-left_by n b e = record {
-  limits = b.limits;
-  rung_limit = b.rung_limit;
-  ration = b.ration;
-  rungs = cond (accepted e.answer) (brought e.call ++ b.rungs) b.rungs;
+left_by n b e = record b {
+  rungs = if accepted e.answer then brought e.call ++ b.rungs else b.rungs;
   closed = b.closed || (accepted e.answer && closes e.call);
   taken = taken_after b n e.answer;
 }
@@ -90,7 +87,7 @@ module _ {V P : Type 0} (c : Rules V P) (b : Book) (ts : List Track) (f : Filter
 
   -- what an output holds after n tracks are taken: the steps of the last one in its first places, where the call took any; else it stays
   abbrev pub held : ℕ → List Step
-  held n = cond (nat_lt b.taken n) (written (steps b.rungs (slice_index_or ts (n - 1) [])) out) out
+  held n = if nat_lt b.taken n then written (steps b.rungs (slice_index_or ts (n - 1) [])) out else out
 
   -- each answer comes exactly when it is due
   pub record Seeks (e : Event V) : Type 0 where

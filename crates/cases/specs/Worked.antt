@@ -7,6 +7,7 @@ use Rattle.sources.specs.Cases.{even, point, Worked as ArmWorked}
 use Rattle.filters.specs.Cases.{Worked as ReversalsWorked}
 use Rattle.book.specs.Book.{refused, new_book, shut, adding, nexting}
 
+-- what the definitions say of all of them
 pub record AllWorked : Type 0 where
   pub ladders : LaddersWorked
   pub arm : ArmWorked

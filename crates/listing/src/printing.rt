@@ -6,7 +6,7 @@ use crate::text::Text;
 use ladder::costs::Travel;
 use ladder::rules::Cost;
 
-// A cost with a text of its own; a lawful cost owes none.
+// A cost with a text of its own; a lawful cost owes none. Not `Display`, whose writing may fail: see `Text`.
 pub trait Printed: Cost {
     ghost shown: { Self → List ℕ };
 
@@ -20,6 +20,6 @@ impl Printed for Travel {
     ghost shown = { λ c. decimal c.total };
 
     fn print(self, text: &mut Text) {
-        text.number(self.total);
+        text.number(self.total as u64);
     }
 }

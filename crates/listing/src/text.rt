@@ -2,7 +2,9 @@
 ghost use Rattle.std.specs.Prelude.{◌≡◌, ℕ, ◌+◌, ◌^◌, ◌<◌, List, [], ◌∷◌, length, decimal};
 ghost use Rattle.listing.specs.Text.{Wrote};
 
-// A text: the bytes that fit are written, and all are counted.
+// A text: the bytes that fit are written, and all are counted. It lies in places that are lent, since nothing here allocates, and the count is not
+// their length. It has no `fmt::Write`: what `write!` promises of the text holds only where it answers Ok, and no contract says when it does, while
+// each call here writes, and says what.
 #[derive(Drop)]
 pub struct Text<'a> {
     out: &'a mut [u8],
@@ -30,6 +32,7 @@ impl<'a> Text<'a> {
         ensures wrote { Wrote (b ∷ []) self.old.out.now self.old.len self.new.out.now self.new.len }
     {
         let at = self.len;
+        // by index: nothing is known of a slice's elements after `get_mut`
         if at < self.out.len() {
             self.out[at] = b;
         }
@@ -37,7 +40,7 @@ impl<'a> Text<'a> {
     }
 
     // A number in decimal digits.
-    pub fn number(&mut self, n: u32)
+    pub fn number(&mut self, n: u64)
         ensures lender { self.new.out.ghost_name ≡ self.old.out.ghost_name }
         ensures wrote { Wrote (decimal n) self.old.out.now self.old.len self.new.out.now self.new.len }
     {

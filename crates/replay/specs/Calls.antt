@@ -1,5 +1,5 @@
 -- The run that a list of calls and the record of their answers and outputs tell of. Assumes nothing.
-use Rattle.std.specs.Prelude.{◌≡◌, ℕ, ◌+◌, ◌≤◌, cond, List, [], ◌∷◌, length, take, drop, Some, None, Option, nat_le}
+use Rattle.std.specs.Prelude.{◌≡◌, ℕ, ◌+◌, ◌≤◌, if◌then◌else◌, List, [], ◌∷◌, length, take, drop, Some, None, Option, Ok, Err, Result, nat_le}
 use Rattle.std.specs.List.{slice_get}
 use Rattle.std.specs.Option.{option_map}
 use Rattle.ladder.specs.declared.poses.Step.{Step}
@@ -9,18 +9,23 @@ use Rattle.book.specs.Book.{Filter, add, close, next, seek, counted, given, refu
 use Rattle.book.specs.Book as book
 use Rattle.book.specs.Runs.{Event}
 use Rattle.resolver.specs.Answers.{number}
+use Rattle.resolver.specs.declared.answers.Refusal.{Refusal}
 use Rattle.resolver.specs.Calls.{Makes}
 use Rattle.resolver.specs.declared.tables.Core.{Core}
 use Rattle.replay.specs.declared.calls.Call.{Call}
 use Rattle.replay.specs.declared.calls.Call.TheVariants.{Add, Close, Next, Seek}
-use Rattle.replay.specs.declared.calls.Answer.{Answer}
-use Rattle.replay.specs.declared.calls.Answer.TheVariants.{Counted, Given, Refused}
+use Rattle.replay.specs.declared.calls.Reply.{Reply}
+use Rattle.replay.specs.declared.calls.Reply.TheVariants.{Counted, Given}
+
+-- an answer as the record holds it: a reply or a refusal
+abbrev pub Recorded : Type 0 → Type 0
+Recorded C = Result (Reply C) Refusal
 
 -- a recorded answer
-abbrev pub told : {C : Type 0} → Answer C → book.Answer C
-told (Counted n) = counted n
-told (Given t) = given t.number t.cost
-told (Refused e) = refused (number e)
+abbrev pub told : {C : Type 0} → Recorded C → book.Answer C
+told (Ok (Counted n)) = counted n
+told (Ok (Given t)) = given t.number t.cost
+told (Err e) = refused (number e)
 
 -- how many output places a call brings
 abbrev pub places : Call → ℕ
@@ -45,20 +50,21 @@ module _ (meanings : List (ℕ → Rung)) (filters : List Filter) where
 
   -- none too where too few places are left for its output
   abbrev pub event : {C : Type 0} → Call → book.Answer C → List Step → List Step → Option (Event C)
-  event c a before after = cond (nat_le (places c) (length before)) (named c a before after) None
+  event c a before after = if nat_le (places c) (length before) then named c a before after else None
 
+  -- an event, if there is one, before those of the calls after it; none ends the run
   abbrev pub followed : {C : Type 0} → Option (Event C) → List (Event C) → List (Event C)
   followed None es = []
   followed (Some e) es = e ∷ es
 
   -- the run: each call that is made, with its answer and its output, up to the first that is not made or has no place for its answer
-  abbrev pub events : {C : Type 0} → List Call → List (Answer C) → List Step → List Step → List (Event C)
+  abbrev pub events : {C : Type 0} → List Call → List (Recorded C) → List Step → List Step → List (Event C)
   events [] ys before after = []
   events (c ∷ cs) [] before after = []
   events (c ∷ cs) (a ∷ ys) before after = followed (event c (told a) before after) (events cs ys (drop (places c) before) (drop (places c) after))
 
   -- what making one call comes to, from the resolver k to the resolver m
-  abbrev pub Made : {C P : Type 0} → Rules C P → Call → Core C → List Step → Option (Answer C) → List Step → Core C → Type 0
+  abbrev pub Made : {C P : Type 0} → Rules C P → Call → Core C → List Step → Option (Recorded C) → List Step → Core C → Type 0
   Made {C} r c k before None after m = ((a : book.Answer C) (o : List Step) → event c a before o ≡ None) × (after ≡ before)
   Made {C} r c k before (Some a) after m =
       (e : Event C) × (event c (told a) before after ≡ Some e) × Makes r k e m × (places c ≤ length before) × (drop (places c) after ≡ drop (places c) before)

@@ -1,12 +1,12 @@
 // A call as a plain value, and what it answers.
 ghost use Rattle.std.specs.Prelude.{◌≡◌};
 ghost use Rattle.replay.specs.Calls.{places, told};
-ghost use Rattle.resolver.specs.Answers.{count_answer, track_answer};
+ghost use Rattle.resolver.specs.Answers.{count_answer};
 
 use resolver::{Refusal, Taken};
 
 // A call. Sources and filters go by their numbers, and a call for a track brings an output of its own with so many places.
-#[derive(Clone, Copy)]
+#[derive(Clone, Copy, PartialEq, Eq, Debug)]
 pub enum Call {
     Add { source: usize, waypoint: u16 },
     Close,
@@ -20,38 +20,25 @@ impl Call {
         ensures { result ≡ places self }
     {
         match self {
-            Call::Add { .. } => 0,
-            Call::Close => 0,
-            Call::Next { places } => places,
-            Call::Seek { places, .. } => places,
+            Call::Add { .. } | Call::Close => 0,
+            Call::Next { places } | Call::Seek { places, .. } => places,
         }
     }
 }
 
-// What a call answered: the rung count, a track, or a refusal.
+// What a call that was not refused answers: the rung count, or a track.
 #[derive(Clone, Copy)]
-pub enum Answer<C> {
+pub enum Reply<C> {
     Counted(usize),
     Given(Taken<C>),
-    Refused(Refusal),
 }
 
-// The answer of adding and closing.
-pub(crate) fn of_count<C>(res: Result<usize, Refusal>) -> Answer<C>
+// What a call answers: its reply, or the question that got a no.
+pub type Answer<C> = Result<Reply<C>, Refusal>;
+
+// The answer of adding and closing. Not `map(Reply::Counted)`: the check takes no function whose result names a cost that its argument does not.
+pub(crate) fn counted<C>(res: Result<usize, Refusal>) -> Answer<C>
     ensures { told result ≡ count_answer res }
 {
-    match res {
-        Ok(rungs) => Answer::Counted(rungs),
-        Err(refusal) => Answer::Refused(refusal),
-    }
-}
-
-// The answer of next and seeking.
-pub(crate) fn of_track<C>(res: Result<Taken<C>, Refusal>) -> Answer<C>
-    ensures { told result ≡ track_answer res }
-{
-    match res {
-        Ok(taken) => Answer::Given(taken),
-        Err(refusal) => Answer::Refused(refusal),
-    }
+    Ok(Reply::Counted(res?))
 }

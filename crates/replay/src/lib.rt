@@ -5,7 +5,7 @@ mod calls;
 mod making;
 mod replaying;
 
-pub use calls::{Answer, Call};
+pub use calls::{Answer, Call, Reply};
 pub use replaying::replay;
 
 #[cfg(test)]
@@ -62,7 +62,7 @@ mod tests {
                 places: 4,
             },
         ];
-        let mut answers = [Answer::Counted(0); 5];
+        let mut answers = [Ok(Reply::Counted(0)); 5];
         let made = replay(
             Limits {
                 shoulder: 65535,
@@ -86,14 +86,14 @@ mod tests {
     #[test]
     fn neither_track_passes(rt: HostRuntime) -> Result<(), Fail> {
         let mut outputs = [spare(); 4];
-        let Some(Answer::Refused(ended)) = sought(3, 13, &mut outputs) else {
+        let Some(Err(ended)) = sought(3, 13, &mut outputs) else {
             return Err(Fail::new("a track was given"));
         };
         assert_eq!(rt; ended.number(), 10);
         assert_eq!(rt; outputs[0].number.0, 0);
         assert_eq!(rt; outputs[2].pose.shoulder, 14);
         assert_eq!(rt; outputs[3].number.0, 7);
-        let Some(Answer::Refused(spent)) = sought(2, 13, &mut outputs) else {
+        let Some(Err(spent)) = sought(2, 13, &mut outputs) else {
             return Err(Fail::new("a track was given"));
         };
         assert_eq!(rt; spent.number(), 9);
@@ -104,7 +104,7 @@ mod tests {
     #[test]
     fn the_first_track_passes(rt: HostRuntime) -> Result<(), Fail> {
         let mut outputs = [spare(); 4];
-        let Some(Answer::Given(taken)) = sought(3, 14, &mut outputs) else {
+        let Some(Ok(Reply::Given(taken))) = sought(3, 14, &mut outputs) else {
             return Err(Fail::new("no track was given"));
         };
         assert_eq!(rt; taken.number, 1);

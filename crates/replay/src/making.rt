@@ -2,7 +2,7 @@
 ghost use Rattle.std.specs.Prelude.{◌≡◌, map, length};
 ghost use Rattle.replay.specs.Calls.{Made};
 
-use crate::calls::{Answer, Call, of_count, of_track};
+use crate::calls::{Answer, Call, Reply, counted};
 use filters::Filter;
 use ladder::poses::Step;
 use ladder::rules::Cost;
@@ -22,23 +22,20 @@ pub(crate) fn make<C: Cost, S: Source, F: Filter>(
     ensures filters { map F.Filter.passes filters.new ≡ map F.Filter.passes filters.old }
     ensures made { Made (map S.Source.meaning sources.old) (map F.Filter.passes filters.old) C.Cost.rules call resolver.old.core outputs.old result outputs.new resolver.new.core }
 {
+    // sources and filters by index: nothing is known of a slice's elements after `get_mut`
     if call.places() > outputs.len() {
         return None;
     }
     match call {
-        Call::Add { source, waypoint } => {
-            if source >= sources.len() {
-                return None;
-            }
-            Some(of_count(resolver.add(&mut sources[source], waypoint)))
+        Call::Add { source, waypoint } if source < sources.len() => {
+            Some(counted(resolver.add(&mut sources[source], waypoint)))
         }
-        Call::Close => Some(of_count(resolver.close())),
-        Call::Next { places } => Some(of_track(resolver.next(&mut outputs[0..places]))),
-        Call::Seek { filter, places } => {
-            if filter >= filters.len() {
-                return None;
-            }
-            Some(of_track(resolver.seek(&mut filters[filter], &mut outputs[0..places])))
+        Call::Close => Some(counted(resolver.close())),
+        Call::Next { places } => Some(resolver.next(&mut outputs[..places]).map(Reply::Given)),
+        Call::Seek { filter, places } if filter < filters.len() => {
+            let sought = resolver.seek(&mut filters[filter], &mut outputs[..places]);
+            Some(sought.map(Reply::Given))
         }
+        _ => None,
     }
 }

@@ -13,7 +13,8 @@ use ladder::rules::Cost;
 use resolver::Resolver;
 use sources::Source;
 
-// Puts an element in its place.
+// Puts an element in its place. A function of its own, since the size of an answer depends on the cost: no proof closed that its place in memory is in
+// range where `replay` writes it by index, or goes over the places with `iter_mut`.
 fn put<T: Drop>(xs: &mut [T], i: usize, x: T)
     requires { i < length xs.old }
     ensures { xs.new ≡ slice_set xs.old i x }
@@ -44,15 +45,17 @@ pub fn replay<'t, C: Cost, S: Source, F: Filter>(
     ensures filters { map F.Filter.passes filters.new ≡ map F.Filter.passes filters.old }
 {
     let mut resolver = Resolver::open(limits, rung_limit, ration, stations, ranked, candidates);
-    let most = calls.len().min(answers.len());
+    // the places that calls before took; with the outputs split at each call the loop has a line more, and a slice to move on
     let mut used = 0;
-    for k in 0..most {
-        let call = calls[k];
-        let Some(answer) = make(&mut resolver, call, sources, filters, &mut outputs[used..]) else {
+    for (k, call) in calls.iter().enumerate() {
+        if k >= answers.len() {
+            return k;
+        }
+        let Some(answer) = make(&mut resolver, *call, sources, filters, &mut outputs[used..]) else {
             return k;
         };
         put(answers, k, answer);
         used += call.places();
     }
-    most
+    calls.len()
 }

@@ -9,10 +9,10 @@ const MOST: u64 = 41748;
 
 fn run(rt: &HostRuntime) -> anyhow::Result<()> {
     let mut job = Vec::new(rt.alloc());
-    let _ = rt.stdin().take(MOST).read_to_end(&mut job)?;
+    rt.stdin().take(MOST).read_to_end(&mut job)?;
     let mut text = [0; 2500];
     let n = list(job.as_slice(), &mut text);
-    rt.write_all(&text[0..n.min(2500)])?;
+    rt.write_all(&text[..n.min(2500)])?;
     Ok(())
 }
 
