@@ -1,14 +1,11 @@
 -- Reading the records in a loop: a turn, a refusal in a turn, and the end.
-use Rattle.std.proofs.Common.{◌≡◌, ℕ, suc, Bool, true, false, cond, eqb, List, [], ◌∷◌, ◌++◌, length, Some, None, Option, unwrap_or, sym, refl, ap, ◌∙◌, ⊎_elim, append_assoc}
-use Rattle.std.specs.Option.{option_map}
-use Rattle.std.proofs.lemmas.Bool.{cond-true, eq-eqb}
+use Rattle.std.proofs.Common.{◌≡◌, ℕ, suc, Bool, true, false, List, [], ◌∷◌, ◌++◌, Some, None, Option, sym, refl, ap, ◌∙◌, ⊎_elim, append_assoc}
 use Rattle.job.specs.declared.faults.Question.{Question}
 use Rattle.job.specs.declared.values.Position.{Position}
-use Rattle.job.specs.declared.faults.Question.TheVariants.{End}
-use Rattle.job.specs.Contents.{Entry, Head}
-use Rattle.job.specs.Reading.{Out, got, fault, and_then, many, via, opt, entry, Read, heading, accepted}
+use Rattle.job.specs.Contents.{Entry}
+use Rattle.job.specs.Reading.{Out, got, fault, and_then, many, via, opt, entry, Read}
 use Rattle.job.proofs.Outs.{never, then_got, then_fault}
-use Rattle.job.specs.Resolved.{Resolved, Waypoint, waypoint, waypoints, placed, origin, resolved, values_of}
+use Rattle.job.specs.Resolved.{Waypoint, waypoint, waypoints, placed}
 
 abbrev pub prepend : {A : Type 0} → List A → Out (List A) → Out (List A)
 prepend l o = and_then o (λ m r. got (l ++ m) r)
@@ -16,10 +13,6 @@ prepend l o = and_then o (λ m r. got (l ++ m) r)
 prepend_cons : {A : Type 0} (l : List A) (a : A) (o : Out (List A)) → prepend l (and_then o (λ m r. got (a ∷ m) r)) ≡ prepend (l ++ a ∷ []) o
 prepend_cons l a (got m r) = ap (λ x. got x r) (sym (append_assoc l (a ∷ []) m))
 prepend_cons l a (fault n p) = refl
-
-pub prepend_nil : {A : Type 0} (o : Out (List A)) → prepend [] o ≡ o
-prepend_nil (got m r) = refl
-prepend_nil (fault n p) = refl
 
 -- n records read, as the waypoints that follow position b
 abbrev pub rest : Position → ℕ → List ℕ → ℕ → Out (List Waypoint)
@@ -54,18 +47,3 @@ pub stopped : (whole : Out (List Waypoint)) (b : Position) (m n : ℕ) (s : List
 stopped whole b m n s p acc k q i g w =
     w ∙ ap (λ j. prepend acc (rest b j s p)) i
     ∙ ap (λ o. prepend acc (and_then (and_then o (λ a j. and_then (many n entry s j) (λ l r. got (a ∷ l) r))) (λ a j. got (waypoints b a) j))) g
-
--- the values of a header, with these waypoints
-abbrev pub values : Head → List Waypoint → Resolved
-values h ws = record { limits = unwrap_or h.limits (record { shoulder = 65535; elbow = 65535 }); arm = h.arm; ration = unwrap_or h.ration 4096; waypoints = ws }
-
--- a file whose header and records were read to its end says these values
-pub said : (s : List ℕ) (h : Head) (n p : ℕ) (ws : List Waypoint) (q : ℕ) → heading s 0 ≡ got (h, n) p → rest origin n s p ≡ got ws q → q ≡ length s → values_of s ≡ Some (values h ws)
-said s h n p ws q eh er eq =
-    let t = then_got (many n entry s p) (λ l k. got (waypoints origin l) k) ws q er in
-    let w : waypoints origin t.0 ≡ ws = cc t.3 in
-    let f : t.1 ≡ q = cc t.3 in
-    ap (λ o. option_map resolved (accepted (and_then (and_then o (λ a k. and_then (many a.1 entry s k) (λ l j. got (record { head = a.0; records = l }) j))) (λ j k. cond (eqb k (length s)) (got j k) (fault End k))))) eh
-    ∙ ap (λ o. option_map resolved (accepted (and_then (and_then o (λ l k. got (record { head = h; records = l }) k)) (λ j k. cond (eqb k (length s)) (got j k) (fault End k))))) t.2
-    ∙ ap (λ o. option_map resolved (accepted o)) (cond-true (eqb t.1 (length s)) (got (record { head = h; records = t.0 }) t.1) (fault End t.1) (eq-eqb t.1 (length s) (f ∙ eq)))
-    ∙ ap (λ v. Some (values h v)) w

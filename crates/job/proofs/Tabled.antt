@@ -1,17 +1,11 @@
--- What a job's table, and the bytes of a pose list, say.
+-- What the bytes of a pose list say.
 use Rattle.std.proofs.Common.{◌≡◌, ℕ, zero, suc, ◌+◌, ◌*◌, ◌/◌, ◌<◌, ◌≤◌, List, [], length, get_or, take, drop, Some, None, refl, ap, ◌∙◌, arith}
-use Rattle.std.proofs.lemmas.List.{length-take-le, drop-drop, get_or-take, get_or-drop}
+use Rattle.std.proofs.lemmas.List.{drop-drop, get_or-take, get_or-drop}
 use Rattle.std.proofs.lemmas.Option.{slice_get_past}
 use Rattle.std.specs.List.{slice_get}
 use Rattle.std.specs.Simd.{first_chunks}
 use Rattle.job.specs.Bytes.{word_at, pose_at, poses_at, poses_of_bytes}
-use Rattle.job.specs.declared.rows.Table.{Table}
-use Rattle.job.specs.Rows.{in_use}
 use Rattle.job.proofs.Basics.{length_poses}
-
--- as many rows are in use as the table says
-pub used : (t : Table) → length (in_use t) ≡ t.len
-used t = length-take-le t.len t.rows (omega (arith, t.size, t.fits))
 
 pose_from : (s : List ℕ) (p n j : ℕ) → j < n → slice_get (poses_at s p n) j ≡ Some (pose_at s (p + 4 * j))
 pose_from s p zero j h = absurd (omega arith)

@@ -41,6 +41,7 @@ pub record Begins {A : Type 0} (pieces : A → List Piece) (fits : A → Type 0)
 abbrev pub opening_pieces : Head × ℕ → List Piece
 opening_pieces c = head_pieces c.0 c.1
 
+-- A header and a count of records that a file can hold.
 abbrev pub OpeningFits : Head × ℕ → Type 0
 OpeningFits c = HeadFits c.0 × (c.1 ≤ 128)
 

@@ -3,6 +3,7 @@ use Rattle.std.specs.Prelude.{ℕ}
 use Rattle.job.specs.declared.faults.Question.{Question}
 use Rattle.job.specs.declared.faults.Question.TheVariants.{Letters, Map, Whole, Range, End}
 
+-- The number by which a question is reported.
 abbrev pub number : Question → ℕ
 number Letters = 11
 number Map = 12

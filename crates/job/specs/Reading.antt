@@ -13,6 +13,7 @@ pub data Out (A : Type 0) : Type 0 where
   got : A → ℕ → Out A
   fault : Question → ℕ → Out A
 
+-- What is read next, from the place after a value; a refusal stays.
 abbrev pub and_then : {A B : Type 0} → Out A → (A → ℕ → Out B) → Out B
 and_then (got a q) f = f a q
 and_then (fault n p) f = fault n p
@@ -50,12 +51,15 @@ many (suc n) r s p = and_then (r s p) (λ a q. and_then (many n r s q) (λ l e. 
 abbrev pub via : {A B : Type 0} → (A → B) → Read A → Read B
 via f r s p = and_then (r s p) (λ a q. got (f a) q)
 
+-- A byte.
 abbrev pub byte : Read ℕ
 byte = whole 1 byte_at
 
+-- An unsigned number of two bytes.
 abbrev pub word : Read ℕ
 word = whole 2 word_at
 
+-- A signed number of two bytes.
 abbrev pub signed : Read ℤ
 signed = whole 2 signed_word_at
 
@@ -63,15 +67,19 @@ signed = whole 2 signed_word_at
 abbrev pub chunk : ℕ → Read (ℕ × List ℕ)
 chunk n = whole n (λ s p. (p, take n (drop p s)))
 
+-- A number from low to high.
 abbrev pub ranged : ℕ → ℕ → Read ℕ
 ranged low high = only Range (between low high) word
 
+-- A pose list after its count.
 abbrev pub poses : Read (List Pose)
 poses = under (only Range (between 1 16) byte) (λ n. via (λ c. poses_of_bytes c.1) (chunk (n * 4)))
 
+-- A note after its length.
 abbrev pub note : Read (List ℕ)
 note = under byte (λ n. via (λ c. c.1) (chunk n))
 
+-- A record of its four values.
 abbrev pub to_entry : Option ℤ × (Option ℤ × (Option (List Pose) × Option (List ℕ))) → Entry
 to_entry c = record { x = c.0; y = c.1.0; poses = c.1.1.0; note = c.1.1.1 }
 
@@ -83,6 +91,7 @@ entry_fields m = via to_entry (pair (opt (stands m 1) signed) (pair (opt (stands
 abbrev pub entry : Read Entry
 entry = under (only Map (lacks 240) byte) entry_fields
 
+-- Do the letters TLAD lie at place p?
 abbrev pub letters_at : List ℕ → ℕ → Bool
 letters_at s p = nat_le (p + 4) (length s) && (slice_index s p == 84 && (slice_index s (p + 1) == 76 && (slice_index s (p + 2) == 65 && slice_index s (p + 3) == 68)))
 
@@ -94,21 +103,27 @@ letters s p = cond (letters_at s p) (got tt (p + 4)) (fault Letters p)
 abbrev pub opening : Read ℕ
 opening = under letters (λ _. only Map (lacks 248) byte)
 
+-- Step limits of two numbers, the shoulder first.
 abbrev pub to_limits : ℕ × ℕ → Limits
 to_limits c = record { shoulder = c.0; elbow = c.1 }
 
+-- Step limits.
 abbrev pub limits : Read Limits
 limits = via to_limits (pair word word)
 
+-- An arm of its three numbers.
 abbrev pub to_arm : ℕ × (ℕ × ℕ) → Arm
 to_arm c = record { first = c.0; second = c.1.0; window = c.1.1 }
 
+-- The numbers of an arm.
 abbrev pub arm : Read Arm
 arm = via to_arm (pair (ranged 1 2000) (pair (ranged 1 2000) (ranged 0 2000)))
 
+-- A ration.
 abbrev pub ration : Read ℕ
 ration = ranged 1 4096
 
+-- A header of its three values, with the count of records.
 abbrev pub to_head : Option Limits × (Option Arm × (Option ℕ × ℕ)) → Head × ℕ
 to_head c = (record { limits = c.0; arm = c.1.0; ration = c.1.1.0 }, c.1.1.1)
 

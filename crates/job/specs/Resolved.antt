@@ -35,6 +35,7 @@ abbrev pub waypoints : Position → List Entry → List Waypoint
 waypoints p [] = []
 waypoints p (e ∷ l) = waypoint p e ∷ waypoints (placed p e) l
 
+-- The position before the first record.
 abbrev pub origin : Position
 origin = record { x = pos 0; y = pos 0 }
 
@@ -49,6 +50,7 @@ pub record Resolved : Type 0 where
   pub ration : ℕ
   pub waypoints : List Waypoint
 
+-- The values of a job.
 abbrev pub resolved : Contents → Resolved
 resolved j = record { limits = limits_of j; arm = j.head.arm; ration = ration_of j; waypoints = waypoints_of j }
 

@@ -23,9 +23,11 @@ pub record Reads {T A : Type 0} (f : T → A) (r : Read A) (old new : Cursor) (r
   pub said : answer f result new.at ≡ r old.file.now old.at
   pub file : new.file ≡ old.file
 
+-- A part by its place and bytes.
 abbrev pub part_v : Part → ℕ × List ℕ
 part_v p = (p.place, p.bytes.now)
 
+-- A record that was read, with its poses and its note as lists.
 abbrev pub record_v : Record → Entry
 record_v r = record { x = r.x; y = r.y; poses = option_map (λ p. poses_of_bytes p.bytes.now) r.poses; note = option_map (λ p. p.bytes.now) r.note }
 
@@ -60,6 +62,7 @@ pub data Handed : Type 0 where
   a_list : ℕ × List ℕ → Handed
   a_note : ℕ × List ℕ → Handed
 
+-- A field that was handed out.
 abbrev pub field_v : Field → Handed
 field_v (X x) = an_x x
 field_v (Y y) = a_y y
@@ -75,10 +78,12 @@ abbrev pub first_of : {A : Type 0} → List A → Option A
 first_of [] = None
 first_of (a ∷ l) = Some a
 
+-- All but the first of a list.
 abbrev pub rest_of : {A : Type 0} → List A → List A
 rest_of [] = []
 rest_of (a ∷ l) = l
 
+-- A header that was read.
 abbrev pub head_v : Header → Head
 head_v h = record { limits = h.limits; arm = h.arm; ration = h.ration }
 

@@ -2,11 +2,12 @@ ghost use Rattle.std.specs.Prelude.{◌≡◌, ℕ, ◌+◌, ◌<◌, ◌≤◌,
 
 use crate::faults::{Fault, Question};
 
-// A place in a file.
+// A file, and a place in it.
 #[derive(Clone, Copy)]
 pub struct Cursor<'a> {
     pub(crate) file: &'a [u8],
     pub(crate) at: usize,
+    // Each element of the file is a byte: the laws of the layout ask for it.
     ghost bytes: { (i : ℕ) → slice_index file.now i < 256 },
 }
 
@@ -85,7 +86,7 @@ impl<'a> Cursor<'a> {
     }
 }
 
-// On drop, puts the cursor back to a place, if one is kept.
+// Puts the cursor back on drop, unless what it guards was done and no place to go back to is kept.
 pub(crate) struct Guard<'g, 'a> {
     pub(crate) cursor: &'g mut Cursor<'a>,
     pub(crate) back: Option<usize>,

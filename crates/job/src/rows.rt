@@ -9,7 +9,8 @@ pub(crate) struct Row<'a> {
     pub(crate) poses: &'a [u8],
 }
 
-// The waypoints of a job in order, in fixed places, since the reader allocates nothing: a file has at most 128 records.
+// The waypoints of a job in order, at most 128. The reader allocates nothing, so they lie in fixed places with a length beside; the kit's
+// ArrayVec would hold them too, but cannot be copied, and a job can.
 #[derive(Clone, Copy)]
 pub(crate) struct Table<'a> {
     len: u16,
@@ -38,6 +39,7 @@ impl<'a> Table<'a> {
     ghost use Rattle.std.specs.List.{slice_get};
     ghost use Rattle.job.specs.Rows.{in_use};
 
+    // No waypoints.
     pub(crate) fn new() -> Table<'a>
         ensures { in_use result ≡ [] }
     {
@@ -47,6 +49,7 @@ impl<'a> Table<'a> {
         }
     }
 
+    // One waypoint more.
     pub(crate) fn push(&mut self, row: Row<'a>)
         requires { length (in_use self.old) < 128 }
         ensures { in_use self.new ≡ in_use self.old ++ row.entry ∷ [] }
@@ -55,12 +58,14 @@ impl<'a> Table<'a> {
         self.len += 1;
     }
 
+    // How many waypoints there are.
     pub(crate) fn len(&self) -> u16
         ensures { result ≡ length (in_use self.now) }
     {
         self.len
     }
 
+    // Waypoint w, if there are so many.
     pub(crate) fn get(&self, w: u16) -> Option<Row<'a>>
         ensures { result ≡ slice_get (in_use self.now) w }
     {

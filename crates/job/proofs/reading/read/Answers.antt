@@ -1,6 +1,5 @@
 use Rattle.std.proofs.Common.{◌≡◌, ℕ, List, length, IfOk, IfErr, Some, Ok, Err, Result, sym, refl, ap, ◌∙◌}
 use Rattle.std.specs.Option.{option_map}
-use Rattle.std.specs.Result.{result_ok}
 use Rattle.job.specs.declared.faults.Fault.{Fault}
 use Rattle.job.specs.declared.jobs.Job.{Job}
 use Rattle.job.specs.Contents.{Contents}
@@ -40,12 +39,5 @@ outcome : (s : List ℕ) → Bytes s → (r : Result Job Fault) → IfOk r (λ j
 outcome s bs (Ok j) m n = accept s bs j (file_out s) refl m
 outcome s bs (Err f) m n = refuse s bs f n
 
-known : (s : List ℕ) (r : Result Job Fault) → IfOk r (λ j. values_of s ≡ Some (view j)) → IfErr r (λ f. file_out s ≡ fault f.question f.place) → values_of s ≡ option_map view (result_ok r)
-known s (Ok j) m n = m
-known s (Err f) m n = ap (λ o. option_map resolved (accepted o)) n
-
-pub returns : goal.returns
-returns c = record {
-  outcome = outcome c.args.file.now (λ i. (c.type_inv.file i).fits) c.scan.result c.scan.ensures.means c.scan.ensures.stops;
-  values = known c.args.file.now c.scan.result c.scan.ensures.means c.scan.ensures.stops;
-}
+pub returns-clause-outcome : goal.returns-clause-outcome
+returns-clause-outcome c = outcome c.args.file.now (λ i. (c.type_inv.file i).fits) c.scan.result c.scan.ensures.means c.scan.ensures.stops

@@ -9,7 +9,6 @@ use Rattle.job.specs.Rows.{row_v, in_use}
 use Rattle.job.specs.Views.{record_v, taken}
 use Rattle.job.proofs.Many.{prepend, rest, opt_some, opt_fault, turn, stopped}
 use Rattle.job.proofs.table.read_rows.Goals as goal
-use Rattle.job.proofs.table.read_rows.Goals.{In-Some}
 
 pub returns-in_err-fields : goal.returns-in_err-fields
 returns-in_err-fields c =
@@ -24,13 +23,6 @@ returns-in_err-fields c =
     let e = stopped _ l.before l.records.left (l.records.left - 1) c.args.records.now.cursor.file.now at _ _ _ n (ap (λ t. entry t at) (sym same) ∙ o.1) l.invariant.0 in
     rw (p.1, p.2) (record { said = sym e; file = r.file ∙ l.invariant.1 })
 
--- one record fewer is left
-one_less : (c : In-Some) → c.loop-fields.records.left ≡ suc c.next_record.new.self.left
-one_less c = let one : taken (Ok c.in_ok-fields.field-0) ≡ 1 = ap (λ t. taken (Ok t)) c.in-Some.is in omega (arith, c.in_ok-fields.ensures.left, one)
-
-pub push-requires : goal.push-requires
-push-requires c = omega (arith, c.loop-fields.invariant.2, one_less (goal.at.push-requires c).In-Some)
-
 pub loop-fields-preserved : goal.loop-fields-preserved
 loop-fields-preserved c =
     let l = c.loop-fields in
@@ -44,7 +36,8 @@ loop-fields-preserved c =
     let o = opt_some _ entry l.records.cursor.file.now at _ e q r.said (ap (option_map record_v) c.in-Some.is) in
     let read = subst (λ t. entry t at ≡ got e q) (ap (λ f. f.now) l.invariant.1) o.1 in
     let acc = map row_v (in_use l.table) in
-    let n = one_less (goal.at.loop-fields-preserved c).In-Some in
+    let one : taken (Ok c.in_ok-fields.field-0) ≡ 1 = ap (λ t. taken (Ok t)) c.in-Some.is in
+    let n : l.records.left ≡ suc z.left = omega (arith, c.in_ok-fields.ensures.left, one) in
     let means = c.row_of-row.ensures in
     let more : map row_v (in_use c.push.new.self) ≡ acc ++ row_v row ∷ [] = ap (map row_v) c.push.ensures ∙ map_push row_v (in_use l.table) row in
     let t = turn _ l.before l.records.left z.left s at acc e q n read l.invariant.0 in (
