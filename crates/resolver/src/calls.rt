@@ -94,7 +94,8 @@ impl<'t, C: Cost> Resolver<'t, C> {
 
     // Takes the first untaken track, where one can be asked for.
     fn take(&mut self, out: &mut [Step]) -> Result<Taken<C>, Refusal>
-        requires { (self.old.core.closed ≡ true) × (self.old.core.rungs ≤ length out.old) }
+        requires closed { self.old.core.closed ≡ true }
+        requires out { self.old.core.rungs ≤ length out.old }
         ensures outcome { Makes C.Cost.rules self.old.core (nexted out.old result out.new) self.new.core }
         ensures kept { SetupKept self.old.core self.new.core }
         ensures counts { OnOk result (self.new.core.taken ≡ self.old.core.taken + 1) }
