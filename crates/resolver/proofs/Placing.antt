@@ -1,13 +1,12 @@
 -- Writing the poses of a rung, place by place. Assumes nothing.
 use Rattle.std.proofs.Common.{◌≡◌, ℕ, ◌+◌, ◌*◌, ◌<◌, List, length, get_or, set, ap, ◌∙◌, get_or-set_other, get_or-set_same}
-use Rattle.std.specs.List.{between}
 use Rattle.ladder.specs.Rules.{Rules}
 use Rattle.ladder.specs.Tracks.{Rung, origin}
 use Rattle.enumeration.specs.declared.records.Station.{Station}
 use Rattle.enumeration.specs.declared.records.Extent.{Extent}
 use Rattle.enumeration.specs.Filling.{blank}
 use Rattle.resolver.specs.declared.tables.Core.{Core}
-use Rattle.resolver.specs.Tables.{no_track, no_extent, station_in}
+use Rattle.resolver.specs.Tables.{no_track, no_extent, station_in, part}
 use Rattle.resolver.specs.Adding.{PlacesRung}
 
 -- the first j of the poses ps are written as rung r over the table ss, which is now zs; the other rungs stay
@@ -29,7 +28,7 @@ places_rung c k a r ps written tracks ration slots extents inside =
     record {
       sizes = λ q ne. ap (λ (x : Extent). x.poses) (other q ne);
       stations = written.old;
-      slots = λ q u h ne. ap (between (16 * (16 * q + u)) (16 * (16 * q + u) + 16)) slots;
+      slots = λ q u h ne. ap (part (16 * q + u)) slots;
       tracks = λ q i h ne. ap (λ xs. get_or xs ((16 + a.ration) * q + i) (no_track c)) tracks ∙ ap (λ z. get_or k.ranked.now ((16 + z) * q + i) (no_track c)) ration;
       used = λ q ne. ap (λ (x : Extent). x.ranked) (other q ne);
       size = ap (λ (x : Extent). x.poses) here;

@@ -4,6 +4,7 @@ use Rattle.std.specs.List.{between}
 use Rattle.std.proofs.lemmas.Slice.{between_is}
 use Rattle.std.proofs.lemmas.List.{take-take, drop-drop}
 use Rattle.std.proofs.lemmas.Bool.{cases_order}
+use Rattle.resolver.specs.Tables.{part}
 use Rattle.resolver.proofs.Blocks.{places_apart}
 
 module _ {X : Type 0} (xs ys : List X) (i j : ℕ) where
@@ -19,7 +20,7 @@ module _ {X : Type 0} (xs ys : List X) (i j : ℕ) where
       ap (take (j - i)) (past ys ∙ ap (drop (i - b)) e ∙ sym (past xs))
 
 -- the parts of 16 places other than the changed one, which is part i
-pub parts_elsewhere : {X : Type 0} (xs ys : List X) (q u r v i : ℕ) → i ≡ 16 * r + v → u < 16 → v < 16 → (q ≡ r → u ≡ v → ⊥) → take (16 * i) ys ≡ take (16 * i) xs → drop (16 * i + 16) ys ≡ drop (16 * i + 16) xs → between (16 * (16 * q + u)) (16 * (16 * q + u) + 16) ys ≡ between (16 * (16 * q + u)) (16 * (16 * q + u) + 16) xs
+pub parts_elsewhere : {X : Type 0} (xs ys : List X) (q u r v i : ℕ) → i ≡ 16 * r + v → u < 16 → v < 16 → (q ≡ r → u ≡ v → ⊥) → take (16 * i) ys ≡ take (16 * i) xs → drop (16 * i + 16) ys ≡ drop (16 * i + 16) xs → part (16 * q + u) ys ≡ part (16 * q + u) xs
 parts_elsewhere xs ys q u r v i is hu hv ne below above =
     let j = 16 * (16 * q + u) in
     ⊎_elim (λ e. absurd (places_apart 16 q r u v hu hv ne (e ∙ is)))

@@ -19,6 +19,10 @@ no_track c = record { cost = c.zero; pose = record { 0 = 0 }; rank = record { 0 
 abbrev pub no_extent : Extent
 no_extent = record { poses = 0; ranked = 0 }
 
+-- part i of a table that is cut into parts of 16 places
+abbrev pub part : {X : Type 0} → ℕ → List X → List X
+part i xs = between (16 * i) (16 * i + 16) xs
+
 -- pose v of rung r
 abbrev pub station_in : List Station → ℕ → ℕ → Station
 station_in ss r v = slice_index_or ss (16 * r + v) no_station
@@ -40,7 +44,7 @@ module _ {C : Type 0} (k : Core C) where
 
   -- the 16 candidate places of pose v of rung r
   abbrev pub slots_at : ℕ → ℕ → List (Candidate C)
-  slots_at r v = between (16 * (16 * r + v)) (16 * (16 * r + v) + 16) k.candidates.now
+  slots_at r v = part (16 * r + v) k.candidates.now
 
   -- the track at place i of rung r's ranked block
   abbrev pub track_at : {P : Type 0} → Rules C P → ℕ → ℕ → Ranked C

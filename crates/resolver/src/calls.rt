@@ -93,7 +93,8 @@ impl<'t, C: Cost> Resolver<'t, C> {
 
     // Takes the first untaken track, where one can be asked for.
     fn take(&mut self, out: &mut [Step]) -> Result<Taken<C>, Refusal>
-        requires { (self.old.core.closed ≡ true) × (self.old.core.rungs ≤ length out.old) }
+        requires closed { self.old.core.closed ≡ true }
+        requires out { self.old.core.rungs ≤ length out.old }
         ensures outcome { record { answer = track_answer result; output = out.new; book = book self.new.core } ≡ nexting C.Cost.rules (book self.old.core) out.old }
         ensures kept { SetupKept self.old.core self.new.core }
         ensures counts { OnOk result (self.new.core.taken ≡ self.old.core.taken + 1) }

@@ -1,8 +1,8 @@
 // A heap that lies in a part of a table. A function of its own makes it over that part: where it is made and let go beside the table, a proof
 // knows how long the part is afterwards, and not what it holds.
-ghost use Rattle.std.specs.Prelude.{◌≡◌, ◌+◌, ◌-◌, ◌<◌, ◌≤◌, length, take, drop, MatchOption};
-ghost use Rattle.std.specs.List.{between};
+ghost use Rattle.std.specs.Prelude.{◌≡◌, ◌+◌, ◌-◌, ◌*◌, ◌<◌, ◌≤◌, length, take, drop, MatchOption};
 ghost use Rattle.heap.specs.Order.{Pushed, Popped};
+ghost use Rattle.resolver.specs.Tables.{part};
 
 use heap::{Heap, Ordered};
 
@@ -26,23 +26,25 @@ fn draw<T: Ordered>(slots: &mut [T], len: usize) -> Option<T>
     waiting.pop()
 }
 
-// Puts x into the heap in the places a to b of a table.
-pub(crate) fn enter_part<T: Ordered>(table: &mut [T], a: usize, b: usize, len: usize, x: T) -> usize
-    requires { (a ≤ b) × ((b ≤ length table.old) × (len ≤ b - a)) }
-    ensures fits { result ≤ b - a }
-    ensures below { take a table.new ≡ take a table.old }
-    ensures above { drop b table.new ≡ drop b table.old }
-    ensures inside { len < b - a → Pushed T.valid T.before (between a b table.old) len x (between a b table.new) result }
+// Puts x into the heap in part i of a table, which is cut into parts of 16 places.
+pub(crate) fn enter_part<T: Ordered>(table: &mut [T], i: usize, len: usize, x: T) -> usize
+    requires within { 16 * i + 16 ≤ length table.old }
+    requires few { len ≤ 16 }
+    ensures fits { result ≤ 16 }
+    ensures below { take (16 * i) table.new ≡ take (16 * i) table.old }
+    ensures above { drop (16 * i + 16) table.new ≡ drop (16 * i + 16) table.old }
+    ensures inside { len < 16 → Pushed T.valid T.before (part i table.old) len x (part i table.new) result }
 {
-    enter(&mut table[a..b], len, x)
+    enter(&mut table[16 * i..16 * i + 16], len, x)
 }
 
-// Takes the least of the heap in the places a to b of a table.
-pub(crate) fn draw_part<T: Ordered>(table: &mut [T], a: usize, b: usize, len: usize) -> Option<T>
-    requires { (a ≤ b) × ((b ≤ length table.old) × (len ≤ b - a)) }
-    ensures below { take a table.new ≡ take a table.old }
-    ensures above { drop b table.new ≡ drop b table.old }
-    ensures inside { MatchOption result ((len ≡ 0) × (table.new ≡ table.old)) (λ x. Popped T.valid T.before (between a b table.old) len x (between a b table.new) (len - 1)) }
+// Takes the least of the heap in part i of a table, which is cut into parts of 16 places.
+pub(crate) fn draw_part<T: Ordered>(table: &mut [T], i: usize, len: usize) -> Option<T>
+    requires within { 16 * i + 16 ≤ length table.old }
+    requires few { len ≤ 16 }
+    ensures below { take (16 * i) table.new ≡ take (16 * i) table.old }
+    ensures above { drop (16 * i + 16) table.new ≡ drop (16 * i + 16) table.old }
+    ensures inside { MatchOption result ((len ≡ 0) × (table.new ≡ table.old)) (λ x. Popped T.valid T.before (part i table.old) len x (part i table.new) (len - 1)) }
 {
-    draw(&mut table[a..b], len)
+    draw(&mut table[16 * i..16 * i + 16], len)
 }

@@ -20,7 +20,7 @@ impl<'t, C: Cost> Core<'t, C> {
         let mut s = self.station(r, v);
         let i = self.station_place(r, v);
         let n = (s.waiting as usize).min(16);
-        let waiting = enter_part(self.candidates, 16 * i, 16 * i + 16, n, x);
+        let waiting = enter_part(self.candidates, i, n, x);
         s.waiting = waiting as u8;
         self.put_station(r, v, s);
     }
@@ -113,7 +113,7 @@ impl<'t, C: Cost> Core<'t, C> {
         let n = s.waiting.min(16);
         s.pending = false;
         s.waiting = n.saturating_sub(1);
-        match draw_part(self.candidates, 16 * i, 16 * i + 16, n as usize) {
+        match draw_part(self.candidates, i, n as usize) {
             Some(x) => self.append(r, v, s, x),
             None => self.put_station(r, v, s),
         }

@@ -1,5 +1,5 @@
 // The resolver's tables: where a pose, a track and a rung's candidates lie, and what is written there.
-ghost use Rattle.std.specs.Prelude.{◌≡◌, ℕ, ◌+◌, ◌*◌, ◌<◌, ◌≤◌, length, slice_index_or};
+ghost use Rattle.std.specs.Prelude.{◌≡◌, ℕ, ◌+◌, ◌*◌, ◌^◌, ◌<◌, ◌≤◌, length};
 
 use enumeration::{Candidate, Extent, Place, Ranked, Station};
 use ladder::poses::{Limits, PoseNumber};
@@ -36,6 +36,17 @@ pub struct Core<'t, C> {
     ghost candidates_fit: { 256 * rung_limit ≤ length candidates.now },
 }
 
+// Place i of block r, in a table that is cut into blocks of one width; a place past the block's end is brought to its last.
+fn place_in(width: usize, r: usize, i: usize) -> usize
+    requires some { 0 < width }
+    requires fits { width * r + width < 2 ^ 64 }
+    ensures low { width * r ≤ result }
+    ensures high { result < width * r + width }
+    ensures is { i < width → result ≡ width * r + i }
+{
+    width * r + i.min(width - 1)
+}
+
 // The numbers that the tables hold are brought into range before they are used as places: what a table holds follows from the cost's rules, which
 // the type's invariant does not name. So no access leaves its table whatever they are. A rung and a pose number stay two parameters: nearly half of
 // the calls join a rung with another pose number than they were given, and a contract would have to name both fields each time.
@@ -51,7 +62,7 @@ impl<'t, C: Cost> Core<'t, C> {
         ensures high { result < 16 * r + 16 }
         ensures is { v.0 < 16 → result ≡ 16 * r + v.0 }
     {
-        16 * r + (v.0 as usize).min(15)
+        place_in(16, r, v.0 as usize)
     }
 
     // Where a place of rung r's ranked block lies.
@@ -60,8 +71,7 @@ impl<'t, C: Cost> Core<'t, C> {
         ensures within { result < length self.now.ranked.now }
         ensures is { at.0 < 16 + self.now.ration → result ≡ (16 + self.now.ration) * r + at.0 }
     {
-        let width = 16 + self.ration;
-        width * r + (at.0 as usize).min(width - 1)
+        place_in(16 + self.ration, r, at.0 as usize)
     }
 
     // Pose v of rung r.

@@ -1,10 +1,9 @@
 use Rattle.std.proofs.Common.{◌≡◌, ℕ, ◌+◌, ◌-◌, ◌*◌, false, List, Some, None, sym, ap, ◌∙◌, arith}
-use Rattle.std.specs.List.{between}
 use Rattle.enumeration.specs.declared.records.Candidate.{Candidate}
 use Rattle.enumeration.specs.declared.records.Station.{Station}
 use Rattle.enumeration.specs.Waiting.{ReachedBoth, earlier}
 use Rattle.enumeration.specs.Changes.{drained}
-use Rattle.resolver.specs.Tables.{tables_of, width, station_at}
+use Rattle.resolver.specs.Tables.{tables_of, width, station_at, part}
 use Rattle.resolver.proofs.Slices.{parts_elsewhere}
 use Rattle.resolver.proofs.Heaps.{popped_at}
 use Rattle.resolver.proofs.Drawing.{settles, fits, draws}
@@ -30,15 +29,15 @@ returns-in-Some-clause-effect g c =
     let S = station_at k r v in
     let i = c.station_place-i.ensures.is few in
     let same = c.station-s.ensures few in
-    let part : (l : List (Candidate g.row.C.Denot)) → between (16 * c.station_place-i.result) (16 * c.station_place-i.result + 16) l ≡ between (16 * (16 * r + v)) (16 * (16 * r + v) + 16) l = λ l. ap (λ j. between (16 * j) (16 * j + 16) l) i in
+    let there : (l : List (Candidate g.row.C.Denot)) → part c.station_place-i.result l ≡ part (16 * r + v) l = λ l. ap (λ j. part j l) i in
     let held : c.min-n.result ≡ S.waiting = omega (arith, c.min-n.ensures, ap (λ t. t.waiting) same, all) in
     let less : c.saturating_sub.result ≡ S.waiting - 1 = omega (arith, c.saturating_sub.ensures, held) in
     let is = drained_read s S c.saturating_sub.result same less in
-    let sl : ℕ → ℕ → List (Candidate g.row.C.Denot) = λ q u. between (16 * (16 * q + u)) (16 * (16 * q + u) + 16) ys in (
+    let sl : ℕ → ℕ → List (Candidate g.row.C.Denot) = λ q u. part (16 * q + u) ys in (
       Some x,
       draws rules (width k) (tables_of rules k) (tables_of rules m) r v few sl _ is x
           (λ q u h ne. parts_elsewhere xs ys q u r v c.station_place-i.result i h few ne e.below e.above)
-          (λ z. popped_at (ReachedBoth rules) (earlier rules) x (part xs) held (part ys ∙ sym z) (ap (λ n. n - 1) held) e.inside)
+          (λ z. popped_at (ReachedBoth rules) (earlier rules) x (there xs) held (there ys ∙ sym z) (ap (λ n. n - 1) held) e.inside)
           (c.append.ensures.effect few (fits rules (width k) (tables_of rules k) (tables_of rules m) r v few sl _ is more)),
     )
 
@@ -57,10 +56,10 @@ returns-in-None-clause-effect g c =
     let same = c.station-s.ensures few in
     let held : c.min-n.result ≡ S.waiting = omega (arith, c.min-n.ensures, ap (λ t. t.waiting) same, all) in
     let less : c.saturating_sub.result ≡ S.waiting - 1 = omega (arith, c.saturating_sub.ensures, held) in
-    let sl : ℕ → ℕ → List (Candidate g.row.C.Denot) = λ q u. between (16 * (16 * q + u)) (16 * (16 * q + u) + 16) ys in (
+    let sl : ℕ → ℕ → List (Candidate g.row.C.Denot) = λ q u. part (16 * q + u) ys in (
       None,
       settles rules (width k) (tables_of rules k) (tables_of rules m) r v few sl _ (drained_read s S c.saturating_sub.result same less)
-          (λ q u. ap (between (16 * (16 * q + u)) (16 * (16 * q + u) + 16)) e.1)
+          (λ q u. ap (part (16 * q + u)) e.1)
           (sym held ∙ e.0)
           (c.put_station.ensures.effect few),
     )

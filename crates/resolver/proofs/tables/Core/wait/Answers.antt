@@ -1,10 +1,9 @@
 use Rattle.std.proofs.Common.{◌≡◌, ◌+◌, ◌*◌, List, sym, ap, ◌∙◌, arith}
-use Rattle.std.specs.List.{between}
 use Rattle.enumeration.specs.declared.records.Candidate.{Candidate}
 use Rattle.enumeration.specs.declared.records.Station.{Station}
 use Rattle.enumeration.specs.Waiting.{ReachedBoth, earlier}
 use Rattle.enumeration.specs.Changes.{with_waiting}
-use Rattle.resolver.specs.Tables.{station_at}
+use Rattle.resolver.specs.Tables.{station_at, part}
 use Rattle.resolver.proofs.Slices.{parts_elsewhere}
 use Rattle.resolver.proofs.Heaps.{pushed_at}
 use Rattle.resolver.proofs.tables.Core.wait.Goals as goal
@@ -24,7 +23,7 @@ returns-clause-effect g c =
     let i = c.station_place-i.ensures.is few in
     let s = c.station-s.ensures few in
     let p = c.put_station.ensures.effect few in
-    let part : (l : List (Candidate g.row.C.Denot)) → between (16 * c.station_place-i.result) (16 * c.station_place-i.result + 16) l ≡ between (16 * (16 * r + v)) (16 * (16 * r + v) + 16) l = λ l. ap (λ j. between (16 * j) (16 * j + 16) l) i in
+    let there : (l : List (Candidate g.row.C.Denot)) → part c.station_place-i.result l ≡ part (16 * r + v) l = λ l. ap (λ j. part j l) i in
     let some : c.min-n.result ≡ S.waiting = omega (arith, c.min-n.ensures, ap (λ t. t.waiting) s, room) in
     record {
       elsewhere = record {
@@ -36,5 +35,5 @@ returns-clause-effect g c =
       };
       block = record { tracks = p.block.tracks; used = p.block.used };
       station = p.here ∙ ap (λ (t : Station). with_waiting t n) s ∙ ap (λ z. with_waiting S z) (sym (ap (λ t. t.waiting) p.here));
-      pushed = pushed_at (ReachedBoth rules) (earlier rules) c.args.x (part xs) some (part ys ∙ sym p.slots) (sym (ap (λ t. t.waiting) p.here)) (e.inside (omega (arith, some, room)));
+      pushed = pushed_at (ReachedBoth rules) (earlier rules) c.args.x (there xs) some (there ys ∙ sym p.slots) (sym (ap (λ t. t.waiting) p.here)) (e.inside (omega (arith, some, room)));
     }
