@@ -4,9 +4,9 @@ use crate::printing::Printed;
 use crate::text::Text;
 use enumeration::{Candidate, Ranked, Station};
 use ladder::costs::Travel;
-use ladder::poses::{Limits, Step};
+use ladder::poses::Step;
 use ladder::rules::Cost;
-use resolver::{Refusal, Resolver};
+use resolver::{LentTables, Refusal, Resolver, Setup};
 use sources::{Armed, Source, Tabled};
 
 // How many rungs and how many tracks a listing has at most.
@@ -59,19 +59,16 @@ fn list_closed<C: Printed>(resolver: &mut Resolver<C>, text: &mut Text) -> Resul
 // The listing of a job file, up to what ends it.
 fn list_file<C: Printed>(
     file: &[u8],
-    stations: &mut [Station],
-    ranked: &mut [Ranked<C>],
-    candidates: &mut [Candidate<C>],
+    tables: LentTables<C>,
     text: &mut Text,
 ) -> Result<(), Ending> {
     let job = job::read(file)?;
-    let limits = job.limits();
-    let limits = Limits {
-        shoulder: limits.shoulder,
-        elbow: limits.elbow,
+    let setup = Setup {
+        limits: job.limits(),
+        rung_limit: RUNGS,
+        ration: job.ration().min(TRACKS) as usize,
     };
-    let ration = job.ration().min(TRACKS) as usize;
-    let mut resolver = Resolver::open(limits, RUNGS, ration, stations, ranked, candidates);
+    let mut resolver = Resolver::open(setup, tables);
     if job.arm().is_some() {
         add_all(&mut resolver, &mut Armed::new(file), job.len())?;
     } else {
@@ -85,13 +82,11 @@ fn list_file<C: Printed>(
 // into `out` is left out.
 pub fn write_listing<C: Printed>(
     file: &[u8],
-    stations: &mut [Station],
-    ranked: &mut [Ranked<C>],
-    candidates: &mut [Candidate<C>],
+    tables: LentTables<C>,
     out: &mut [u8],
 ) -> usize {
     let mut text = Text::over(out);
-    if let Err(ending) = list_file(file, stations, ranked, candidates, &mut text) {
+    if let Err(ending) = list_file(file, tables, &mut text) {
         last_line(&mut text, ending);
     }
     text.len()
@@ -103,5 +98,10 @@ pub fn list(file: &[u8], out: &mut [u8; 2500]) -> usize {
     let mut stations = [Station::blank(); STATIONS];
     let mut ranked = [Ranked::blank(Travel::zero()); RANKED];
     let mut candidates = [Candidate::blank(Travel::zero()); CANDIDATES];
-    write_listing(file, &mut stations, &mut ranked, &mut candidates, out)
+    let tables = LentTables {
+        stations: &mut stations,
+        ranked: &mut ranked,
+        candidates: &mut candidates,
+    };
+    write_listing(file, tables, out)
 }

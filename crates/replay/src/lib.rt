@@ -16,6 +16,7 @@ mod tests {
     use ladder::costs::Travel;
     use ladder::poses::{Limits, Pose, PoseNumber, Step};
     use ladder::rules::Cost;
+    use resolver::{LentTables, Setup};
     use sources::Tabled;
     use std::test::Fail;
 
@@ -64,15 +65,19 @@ mod tests {
         ];
         let mut answers = [Ok(Reply::Counted(0)); 5];
         let made = replay(
-            Limits {
-                shoulder: 65535,
-                elbow: 65535,
+            Setup {
+                limits: Limits {
+                    shoulder: 65535,
+                    elbow: 65535,
+                },
+                rung_limit: 3,
+                ration,
             },
-            3,
-            ration,
-            &mut stations,
-            &mut ranked,
-            &mut candidates,
+            LentTables {
+                stations: &mut stations,
+                ranked: &mut ranked,
+                candidates: &mut candidates,
+            },
             &calls,
             &mut [Tabled::new(&JOB)],
             &mut [envelope],

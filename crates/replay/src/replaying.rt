@@ -1,16 +1,15 @@
 // All calls.
 ghost use Rattle.std.specs.Prelude.{◌≡◌, ◌<◌, map, length, take, drop, slice_set};
-ghost use Rattle.book.specs.Book.{opened};
 ghost use Rattle.book.specs.Runs.{Promised};
 ghost use Rattle.replay.specs.Calls.{events, all_places};
+ghost use Rattle.resolver.specs.Opening.{opened_over};
 
 use crate::calls::{Answer, Call};
 use crate::making::make;
-use enumeration::{Candidate, Ranked, Station};
 use filters::Filter;
-use ladder::poses::{Limits, Step};
+use ladder::poses::Step;
 use ladder::rules::Cost;
-use resolver::Resolver;
+use resolver::{LentTables, Resolver, Setup};
 use sources::Source;
 
 // Puts an element in its place. A function of its own, since the size of an answer depends on the cost: no proof closed that its place in memory is in
@@ -26,12 +25,8 @@ fn put<T: Drop>(xs: &mut [T], i: usize, x: T)
 // filter that is not there, or for whose answer or output the record has no place left. The answers stand in `answers`, and the outputs, as each
 // call left its own, one after another in `outputs`.
 pub fn replay<'t, C: Cost, S: Source, F: Filter>(
-    limits: Limits,
-    rung_limit: usize,
-    ration: usize,
-    stations: &'t mut [Station],
-    ranked: &'t mut [Ranked<C>],
-    candidates: &'t mut [Candidate<C>],
+    setup: Setup,
+    tables: LentTables<'t, C>,
     calls: &[Call],
     sources: &mut [S],
     filters: &mut [F],
@@ -39,12 +34,12 @@ pub fn replay<'t, C: Cost, S: Source, F: Filter>(
     outputs: &mut [Step],
 ) -> usize
     ensures made { result ≡ length (events (map S.Source.meaning sources.old) (map F.Filter.passes filters.old) calls.now answers.new outputs.old outputs.new) }
-    ensures promise { Promised C.Cost.rules (opened limits rung_limit ration (length stations.old) (length ranked.old) (length candidates.old)) (events (map S.Source.meaning sources.old) (map F.Filter.passes filters.old) calls.now answers.new outputs.old outputs.new) }
+    ensures promise { Promised C.Cost.rules (opened_over setup tables.entry) (events (map S.Source.meaning sources.old) (map F.Filter.passes filters.old) calls.now answers.new outputs.old outputs.new) }
     ensures spared { (drop result answers.new ≡ drop result answers.old) × (drop (all_places (take result calls.now)) outputs.new ≡ drop (all_places (take result calls.now)) outputs.old) }
     ensures sources { map S.Source.meaning sources.new ≡ map S.Source.meaning sources.old }
     ensures filters { map F.Filter.passes filters.new ≡ map F.Filter.passes filters.old }
 {
-    let mut resolver = Resolver::open(limits, rung_limit, ration, stations, ranked, candidates);
+    let mut resolver = Resolver::open(setup, tables);
     // the places that calls before took; with the outputs split at each call the loop has a line more, and a slice to move on
     let mut used = 0;
     for (k, call) in calls.iter().enumerate() {
