@@ -80,11 +80,7 @@ fn list_file<C: Printed>(
 
 // Writes the listing of a job file under any cost, over tables for 8 rungs and 64 tracks; answers how many bytes it has. What does not fit
 // into `out` is left out.
-pub fn write_listing<C: Printed>(
-    file: &[u8],
-    tables: LentTables<C>,
-    out: &mut [u8],
-) -> usize {
+pub fn write_listing<C: Printed>(file: &[u8], tables: LentTables<C>, out: &mut [u8]) -> usize {
     let mut text = Text::over(out);
     if let Err(ending) = list_file(file, tables, &mut text) {
         last_line(&mut text, ending);
