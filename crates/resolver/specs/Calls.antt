@@ -12,16 +12,19 @@ use Rattle.resolver.specs.declared.tables.Core.{Core}
 use Rattle.resolver.specs.Answers.{count_answer, track_answer}
 use Rattle.resolver.specs.Standing.{book}
 
--- the events of a run that the calls are: adding a source's list, closing, next and seeking, with an output before and after
+-- the event of a run that adding a source's list is
 abbrev pub added : {C : Type 0} → Rung → Result ℕ Refusal → Event C
 added list r = record { call = add list; answer = count_answer r; output = [] }
 
+-- that of closing
 abbrev pub closed_so : {C : Type 0} → Result ℕ Refusal → Event C
 closed_so r = record { call = close; answer = count_answer r; output = [] }
 
+-- that of next, with an output before and after
 abbrev pub nexted : {C : Type 0} → List Step → Result (Taken C) Refusal → List Step → Event C
 nexted before r after = record { call = next before; answer = track_answer r; output = after }
 
+-- that of seeking, with an output before and after
 abbrev pub sought : {C : Type 0} → Filter → List Step → Result (Taken C) Refusal → List Step → Event C
 sought f before r after = record { call = seek f before; answer = track_answer r; output = after }
 

@@ -89,10 +89,11 @@ pub record SetupKept {C : Type 0} (k m : Core C) : Type 0 where
   pub closed : m.closed ≡ k.closed
 
 module _ {C P : Type 0} (c : Rules C P) (k : Core C) where
-  -- the ladder that the tables hold, and its list
+  -- the ladder that the tables hold
   abbrev pub ladder_of : Ladder
   ladder_of = ladder (tables_of c k) k.rungs
 
+  -- the list of that ladder
   abbrev pub list_of : List Track
   list_of = tracks_of c k.limits ladder_of
 

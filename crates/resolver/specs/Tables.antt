@@ -9,13 +9,15 @@ use Rattle.enumeration.specs.declared.records.Extent.{Extent}
 use Rattle.enumeration.specs.Tables.{Tables}
 use Rattle.resolver.specs.declared.tables.Core.{Core}
 
--- what a place past the end of a table reads as; no place in use is there
+-- what a place past the end of the table of poses reads as; no place in use is there
 abbrev pub no_station : Station
 no_station = record { pose = record { shoulder = pos 0; elbow = pos 0 }; waiting = 0; found = 0; last = record { 0 = 0 }; pending = false }
 
+-- the same of the table of tracks
 abbrev pub no_track : {C P : Type 0} → Rules C P → Ranked C
 no_track c = record { cost = c.zero; pose = record { 0 = 0 }; rank = record { 0 = 0 }; back = record { pose = record { 0 = 0 }; rank = record { 0 = 0 } }; front = record { 0 = 0 }; after = record { 0 = 0 } }
 
+-- the same of the rungs' extents
 abbrev pub no_extent : Extent
 no_extent = record { poses = 0; ranked = 0 }
 
@@ -32,9 +34,11 @@ abbrev pub size_in : List Extent → ℕ → ℕ
 size_in es r = (slice_index_or es r no_extent).poses
 
 module _ {C : Type 0} (k : Core C) where
+  -- pose v of rung r
   abbrev pub station_at : ℕ → ℕ → Station
   station_at r v = station_in k.stations.now r v
 
+  -- how many poses rung r has
   abbrev pub size_at : ℕ → ℕ
   size_at r = size_in k.extents r
 
