@@ -47,9 +47,9 @@ fn place_in(width: usize, r: usize, i: usize) -> usize
     width * r + i.min(width - 1)
 }
 
-// The numbers that the tables hold are brought into range before they are used as places: what a table holds follows from the cost's rules, which
-// the type's invariant does not name. So no access leaves its table whatever they are. A rung and a pose number stay two parameters: nearly half of
-// the calls join a rung with another pose number than they were given, and a contract would have to name both fields each time.
+// The numbers that the tables hold are brought into range before they are used as places: what a table holds is known between calls alone, by the
+// resolver's invariant, and these run within a call. So no access leaves its table whatever they are. A rung and a pose number stay two parameters:
+// nearly half of the calls join a rung with another pose number than they were given, and a contract would have to name both fields each time.
 impl<'t, C: Cost> Core<'t, C> {
     ghost use Rattle.resolver.specs.Kept.{Same};
     ghost use Rattle.resolver.specs.Effects.{PutsStation, PutsTrack};
