@@ -23,6 +23,12 @@ pub record Reads {T A : Type 0} (f : T → A) (r : Read A) (old new : Cursor) (r
   pub said : answer f result new.at ≡ r old.file.now old.at
   pub file : new.file ≡ old.file
 
+-- What an optional call answered, where `called r c` says that the call answers r and leaves the cursor at c.
+abbrev pub IsRead : {T : Type 0} → (Result T Fault → Cursor → Type 0) → Result (Option T) Fault → Cursor → Type 0
+IsRead called (Ok None) c = ⊥
+IsRead called (Ok (Some t)) c = called (Ok t) c
+IsRead called (Err e) c = called (Err e) c
+
 -- A part by its place and bytes.
 abbrev pub part_v : Part → ℕ × List ℕ
 part_v p = (p.place, p.bytes.now)

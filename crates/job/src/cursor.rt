@@ -20,7 +20,9 @@ pub struct Part<'a> {
 
 impl<'a> Cursor<'a> {
     ghost use Rattle.job.specs.Reading.{byte, word, signed, chunk, ranged};
-    ghost use Rattle.job.specs.Views.{Reads, part_v, Lies};
+    ghost use Rattle.job.specs.Views.{Reads, part_v, Lies, IsRead};
+    ghost use Rattle.std.specs.Fn.{FnOnceReturnsAtMut};
+    ghost use Rattle.std.specs.Bool.{MatchBool};
 
     // The refusal of what begins here.
     pub(crate) fn fault(&self, question: Question) -> Fault
@@ -69,6 +71,22 @@ impl<'a> Cursor<'a> {
     {
         let n = self.next_word()?;
         Ok(n.cast_signed())
+    }
+
+    // What `read` reads, if it is there.
+    pub(crate) fn optional<T, F: FnOnce(&mut Cursor<'a>) -> Result<T, Fault>>(
+        &mut self,
+        there: bool,
+        read: F,
+    ) -> Result<Option<T>, Fault>
+        requires { F.IsAlwaysCallable read }
+        ensures { MatchBool there (IsRead (FnOnceReturnsAtMut F.FnOnce read self.old) result self.new) ((result ≡ Ok None) × (self.new ≡ self.old)) }
+    {
+        if there {
+            Ok(Some(read(self)?))
+        } else {
+            Ok(None)
+        }
     }
 
     // A number from low to high.

@@ -83,21 +83,9 @@ impl<'a> Cursor<'a> {
         ensures reads { Reads (λ t. (head_v t.0, t.1)) (head_fields map) self.old self.new result }
         ensures few { IfOk result (λ t. t.1 ≤ 128) }
     {
-        let limits = if map & LIMITS != 0 {
-            Some(self.next_limits()?)
-        } else {
-            None
-        };
-        let arm = if map & ARM != 0 {
-            Some(self.next_arm()?)
-        } else {
-            None
-        };
-        let ration = if map & RATION != 0 {
-            Some(self.next_ranged(1, 4096)?)
-        } else {
-            None
-        };
+        let limits = self.optional(map & LIMITS != 0, Cursor::next_limits)?;
+        let arm = self.optional(map & ARM != 0, Cursor::next_arm)?;
+        let ration = self.optional(map & RATION != 0, |cursor| cursor.next_ranged(1, 4096))?;
         let count = self.next_ranged(0, 128)?;
         Ok((
             Header {

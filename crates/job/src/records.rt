@@ -1,7 +1,7 @@
 ghost use Rattle.std.specs.Prelude.{◌≡◌, ℕ, ◌+◌, ◌<◌, length, IfSome, IfOk, nat_lt};
 ghost use Rattle.std.specs.Option.{option_map};
 ghost use Rattle.std.specs.Iterator.{YieldsFirstBy, item_count};
-ghost use Rattle.job.specs.Reading.{opt, poses, note, entry, entry_fields};
+ghost use Rattle.job.specs.Reading.{opt, poses, note, entry};
 ghost use Rattle.job.specs.Bytes.{poses_of_bytes};
 ghost use Rattle.job.specs.Outcomes.{Next};
 ghost use Rattle.job.specs.Views.{Reads, record_v, Lies, Places, field_v, Without, taken, unhanded, first_of, rest_of};
@@ -61,34 +61,6 @@ impl<'a> Cursor<'a> {
         self.next_part(n as usize)
     }
 
-    // The fields that a record's map names.
-    fn next_fields(&mut self, map: u8) -> Result<Record<'a>, Fault>
-        ensures reads { Reads record_v (entry_fields map) self.old self.new result }
-        ensures places { (p : ℕ) → self.old.at ≡ p + 1 → IfOk result (Places self.old.file.now p) }
-    {
-        let x = if map & X != 0 {
-            Some(self.next_signed()?)
-        } else {
-            None
-        };
-        let y = if map & Y != 0 {
-            Some(self.next_signed()?)
-        } else {
-            None
-        };
-        let poses = if map & POSES != 0 {
-            Some(self.next_poses()?)
-        } else {
-            None
-        };
-        let note = if map & NOTE != 0 {
-            Some(self.next_note()?)
-        } else {
-            None
-        };
-        Ok(Record { x, y, poses, note })
-    }
-
     fn next_record(&mut self) -> Result<Record<'a>, Fault>
         ensures reads { Reads record_v entry self.old self.new result }
         ensures places { IfOk result (Places self.old.file.now self.old.at) }
@@ -98,7 +70,11 @@ impl<'a> Cursor<'a> {
         if map & UNNAMED != 0 {
             return Err(refusal);
         }
-        self.next_fields(map)
+        let x = self.optional(map & X != 0, Cursor::next_signed)?;
+        let y = self.optional(map & Y != 0, Cursor::next_signed)?;
+        let poses = self.optional(map & POSES != 0, Cursor::next_poses)?;
+        let note = self.optional(map & NOTE != 0, Cursor::next_note)?;
+        Ok(Record { x, y, poses, note })
     }
 }
 
