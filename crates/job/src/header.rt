@@ -9,7 +9,7 @@ use crate::records::Records;
 use crate::values::Arm;
 use ladder::poses::Limits;
 
-// The bits of the header's map.
+// The bits of the header's map, and those that name nothing.
 const LIMITS: u8 = 1;
 
 const ARM: u8 = 2;
@@ -59,6 +59,7 @@ fn begin<'a>(file: &'a [u8]) -> Result<(u8, Cursor<'a>), Fault>
 }
 
 impl<'a> Cursor<'a> {
+    // The step limits.
     fn next_limits(&mut self) -> Result<Limits, Fault>
         ensures { Reads (λ v. v) limits self.old self.new result }
     {
@@ -68,6 +69,7 @@ impl<'a> Cursor<'a> {
         })
     }
 
+    // The arm's numbers.
     fn next_arm(&mut self) -> Result<Arm, Fault>
         ensures { Reads (λ v. v) arm self.old self.new result }
     {

@@ -27,7 +27,7 @@ pub enum Field<'a> {
     Note(Part<'a>),
 }
 
-// The bits of a record's map.
+// The bits of a record's map, and those that name nothing.
 const X: u8 = 1;
 
 const Y: u8 = 2;
@@ -61,6 +61,7 @@ impl<'a> Cursor<'a> {
         self.next_part(n as usize)
     }
 
+    // A record: its map, and the fields that the map names.
     fn next_record(&mut self) -> Result<Record<'a>, Fault>
         ensures reads { Reads record_v entry self.old self.new result }
         ensures places { IfOk result (Places self.old.file.now self.old.at) }
