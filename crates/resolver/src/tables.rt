@@ -49,7 +49,8 @@ fn place_in(width: usize, r: usize, i: usize) -> usize
 
 // The numbers that the tables hold are brought into range before they are used as places: what a table holds follows from the cost's rules, which
 // the type's invariant does not name. So no access leaves its table whatever they are. A rung and a pose number stay two parameters: nearly half of
-// the calls join a rung with another pose number than they were given, and a contract would have to name both fields each time.
+// the calls join a rung with another pose number than they were given, and a contract would have to name both fields each time. That a rung is
+// below the limit is a fact about an argument, and what a step keeps is one about two moments: they are clauses, since no type can hold them.
 impl<'t, C: Cost> Core<'t, C> {
     ghost use Rattle.resolver.specs.Kept.{Same};
     ghost use Rattle.resolver.specs.Effects.{PutsStation, PutsTrack};
