@@ -34,6 +34,7 @@ pub struct Core<'t, C> {
     ghost stations_fit: { 16 * rung_limit ≤ length stations.now },
     ghost ranked_fit: { (16 + ration) * rung_limit ≤ length ranked.now },
     ghost candidates_fit: { 256 * rung_limit ≤ length candidates.now },
+    ghost wide: { length counts ≡ 16 },
 }
 
 // Place i of block r, in a table that is cut into blocks of one width; a place past the block's end is brought to its last.
