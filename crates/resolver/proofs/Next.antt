@@ -81,15 +81,15 @@ module _ {C P : Type 0} (c : Rules C P) (laws : Lawful c) (k : Core C) (s : Soun
         ∙ ap (λ t. steps (ladder (tables_of c k) (suc r)) t ++ drop (suc r) before) (sym next.1)
         ∙ ap (λ n. steps (ladder (tables_of c k) n) (get_or (tracks_of c k.limits (ladder (tables_of c k) n)) k.taken []) ++ drop n before) (sym e)
 
-    counts_are : (m : Core C) → Counted c k m v → length k.counts ≡ 16 → (u : ℕ) → u < (tables_of c k).size r → taken_at m u ≡ bumped (taken_at k) v.0 u
-    counts_are m h wide u nu = ap (λ xs. get_or xs u 0) h.counts ∙ ⊎_elim
-        (λ q. ap (λ x. get_or (set k.counts v.0 (taken_at k v.0 + 1)) x 0) q.1 ∙ get_or-set_same k.counts v.0 (taken_at k v.0 + 1) 0 (omega (arith, wide, low_number)) ∙ sym (ap (λ x. cond x (suc (taken_at k u)) (taken_at k u)) q.0 ∙ ap (λ x. suc (taken_at k x)) q.1 ∙ omega arith))
+    counts_are : (m : Core C) → Counted c k m v → (u : ℕ) → u < (tables_of c k).size r → taken_at m u ≡ bumped (taken_at k) v.0 u
+    counts_are m h u nu = ap (λ xs. get_or xs u 0) h.counts ∙ ⊎_elim
+        (λ q. ap (λ x. get_or (set k.counts v.0 (taken_at k v.0 + 1)) x 0) q.1 ∙ get_or-set_same k.counts v.0 (taken_at k v.0 + 1) 0 (omega (arith, k.wide, low_number)) ∙ sym (ap (λ x. cond x (suc (taken_at k u)) (taken_at k u)) q.0 ∙ ap (λ x. suc (taken_at k x)) q.1 ∙ omega arith))
         (λ q. get_or-set_other k.counts v.0 u (taken_at k v.0 + 1) 0 q.1 ∙ sym (ap (λ x. cond x (suc (taken_at k u)) (taken_at k u)) q.0))
         (eqb_tells u v.0)
 
     -- counting it as taken keeps the resolver sound
-    pub counted_sound : (m : Core C) → SetupKept k m → Counted c k m v → length k.counts ≡ 16 → Sound c m
-    counted_sound m kept h wide =
+    pub counted_sound : (m : Core C) → SetupKept k m → Counted c k m v → Sound c m
+    counted_sound m kept h =
         let inside : (q : ℕ) → q < m.rungs → q < k.rungs = λ q x. omega (arith, x, kept.rungs) in
         let one : due m.recent ≡ 1 = ap due h.recent in
         let used : (q : ℕ) → (tables_of c m).used q ≡ (tables_of c k).used q = λ q. ap (λ t. t.used q) h.tables in
@@ -102,5 +102,5 @@ module _ {C P : Type 0} (c : Rules C P) (laws : Lawful c) (k : Core C) (s : Soun
           untaken = λ x. absurd (false≢true (sym x ∙ kept.closed ∙ closed));
           heads =
               subst (HeadsSound c m) (sym (kept.rungs ∙ e))
-              (coe 1 0 (i. Heads c (kept.limits i) (h.tables i) r (taken_at m) (more i) (plainly (h.recent i))) (counted_heads c k.limits (tables_of c k) r (taken_at k) (taken_at m) k.taken v.0 heads best next.2 (counts_are m h wide)));
+              (coe 1 0 (i. Heads c (kept.limits i) (h.tables i) r (taken_at m) (more i) (plainly (h.recent i))) (counted_heads c k.limits (tables_of c k) r (taken_at k) (taken_at m) k.taken v.0 heads best next.2 (counts_are m h)));
         }

@@ -43,8 +43,8 @@ module _ {C P : Type 0} (c : Rules C P) (laws : Lawful c) (k m : Core C) (same :
       (now_sound s closed, ladder_same s closed, record { all = omega (arith, end, ap length (list_same s closed), same.taken); output = refl; counts = same.taken })
 
   -- pose v is chosen: its last track is written, and counted
-  pub takes_one : (v : PoseNumber) (n : Core C) (before after : List Step) (x : Taken C) → IsBest c m r (Some v) → (v.0 < 16 → WritesSteps c m r ((tables_of c m).station r v.0).last.0 before after) → (v.0 < 16 → ((tables_of c m).station r v.0).last.0 < width m → x.cost ≡ last_cost c m.limits (tables_of c m) r (taken_at m) v.0) → x.number ≡ m.taken + 1 → (v.0 < 16 → taken_at m v.0 < 65535 → Counted c m n v) → SetupKept m n → length m.counts ≡ 16 → Takes c k n before after (Some x)
-  takes_one v n before after x best writes is number counts kept wide s closed =
+  pub takes_one : (v : PoseNumber) (n : Core C) (before after : List Step) (x : Taken C) → IsBest c m r (Some v) → (v.0 < 16 → WritesSteps c m r ((tables_of c m).station r v.0).last.0 before after) → (v.0 < 16 → ((tables_of c m).station r v.0).last.0 < width m → x.cost ≡ last_cost c m.limits (tables_of c m) r (taken_at m) v.0) → x.number ≡ m.taken + 1 → (v.0 < 16 → taken_at m v.0 < 65535 → Counted c m n v) → SetupKept m n → Takes c k n before after (Some x)
+  takes_one v n before after x best writes is number counts kept s closed =
       let s' = now_sound s closed in
       let c' = now_closed s closed in
       let e' = now_rungs s closed in
@@ -54,7 +54,7 @@ module _ {C P : Type 0} (c : Rules C P) (laws : Lawful c) (k m : Core C) (same :
       let lst = list_same s closed in
       let tk = same.taken in
       let one = counts low (small c laws m s' c' same.recent r e' v chosen) in (
-        counted_sound c laws m s' c' same.recent r e' v chosen n kept one wide,
+        counted_sound c laws m s' c' same.recent r e' v chosen n kept one,
         (λ i. ladder (one.tables i) (kept.rungs i)) ∙ lad,
         record {
           exists = omega (arith, exists c laws m s' c' same.recent r e' v chosen, ap length lst, tk);

@@ -34,6 +34,7 @@ pub struct Core<'t, C> {
     ghost stations_fit: { 16 * rung_limit ≤ length stations.now },
     ghost ranked_fit: { (16 + ration) * rung_limit ≤ length ranked.now },
     ghost candidates_fit: { 256 * rung_limit ≤ length candidates.now },
+    ghost wide: { length counts ≡ 16 },
 }
 
 // Place i of block r, in a table that is cut into blocks of one width; a place past the block's end is brought to its last.
@@ -49,7 +50,8 @@ fn place_in(width: usize, r: usize, i: usize) -> usize
 
 // The numbers that the tables hold are brought into range before they are used as places: what a table holds is known between calls alone, by the
 // resolver's invariant, and these run within a call. So no access leaves its table whatever they are. A rung and a pose number stay two parameters:
-// nearly half of the calls join a rung with another pose number than they were given, and a contract would have to name both fields each time.
+// nearly half of the calls join a rung with another pose number than they were given, and a contract would have to name both fields each time. That a
+// rung is below the limit is a fact about an argument, and what a step keeps is one about two moments: they are clauses, since no type can hold them.
 impl<'t, C: Cost> Core<'t, C> {
     ghost use Rattle.resolver.specs.Kept.{Same};
     ghost use Rattle.resolver.specs.Effects.{PutsStation, PutsTrack};

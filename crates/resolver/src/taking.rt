@@ -97,7 +97,6 @@ impl<'t, C: Cost> Core<'t, C> {
         ensures kept { SetupKept self.old self.new }
         ensures number { result ≡ self.old.taken + 1 }
         ensures counts { self.new.taken ≡ self.old.taken + 1 }
-        ensures wide { length self.old.counts ≡ 16 }
         ensures effect { v.0 < 16 → taken_at self.old v.0 < 65535 → Counted C.Cost.rules self.old self.new v }
     {
         let i = (v.0 as usize).min(15);

@@ -34,4 +34,3 @@ returns-clause-effect g c =
     n.number
     n.effect
     n.kept
-    n.wide
