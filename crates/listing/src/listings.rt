@@ -1,4 +1,7 @@
 // The listing of a job.
+ghost use Rattle.std.specs.Prelude.{IsErr};
+ghost use Rattle.resolver.specs.Sound.{Sound};
+
 use crate::lines::{Ending, head_line, last_line, track_line};
 use crate::printing::Printed;
 use crate::text::Text;
@@ -26,30 +29,37 @@ fn add_all<C: Printed, S: Source>(
     resolver: &mut Resolver<C>,
     source: &mut S,
     n: u16,
-) -> Result<(), Refusal> {
+) -> Result<(), Refusal>
+    requires { Sound C.Cost.rules resolver.old.core }
+    ensures { Sound C.Cost.rules resolver.new.core }
+{
     for w in 0..n {
         resolver.add(source, w)?;
     }
     Ok(())
 }
 
-// A line for each track of the list, up to the refusal that ends it; `steps` has a place for each rung. The bound stays: without it the loop's end
-// would rest on the soundness of the tables, and each function here would have to speak of that.
+// A line for each track of the list, up to the refusal that ends it; `steps` has a place for each rung.
 fn list_tracks<C: Printed>(
     resolver: &mut Resolver<C>,
     steps: &mut [Step],
     text: &mut Text,
-) -> Result<(), Refusal> {
-    for _ in 0..=TRACKS {
+) -> Result<(), Refusal>
+    requires { Sound C.Cost.rules resolver.old.core }
+    ensures { IsErr result }
+{
+    loop {
         let taken = resolver.next(steps)?;
         track_line(text, taken, steps);
     }
-    Ok(())
 }
 
 // The listing of a resolver whose waypoints are added, up to the refusal that ends it. A resolver and a text go together here and in `list_tracks`
 // alone: a struct of the two would be a type more, with no fact of its own.
-fn list_closed<C: Printed>(resolver: &mut Resolver<C>, text: &mut Text) -> Result<(), Refusal> {
+fn list_closed<C: Printed>(resolver: &mut Resolver<C>, text: &mut Text) -> Result<(), Refusal>
+    requires { Sound C.Cost.rules resolver.old.core }
+    ensures { IsErr result }
+{
     let rungs = resolver.close()?;
     head_line::<C>(text, rungs);
     let mut steps = [Step::default(); RUNGS];
@@ -61,7 +71,9 @@ fn list_file<C: Printed>(
     file: &[u8],
     tables: LentTables<C>,
     text: &mut Text,
-) -> Result<(), Ending> {
+) -> Result<(), Ending>
+    ensures { IsErr result }
+{
     let job = job::read(file)?;
     let setup = Setup {
         limits: job.limits(),
@@ -74,8 +86,7 @@ fn list_file<C: Printed>(
     } else {
         add_all(&mut resolver, &mut Tabled::new(file), job.len())?;
     }
-    list_closed(&mut resolver, text)?;
-    Ok(())
+    Ok(list_closed(&mut resolver, text)?)
 }
 
 // Writes the listing of a job file under any cost, over tables for 8 rungs and 64 tracks; answers how many bytes it has. What does not fit

@@ -20,7 +20,8 @@ pub(crate) fn make<C: Cost, S: Source, F: Filter>(
 ) -> Option<Answer<C>>
     ensures sources { map S.Source.meaning sources.new ≡ map S.Source.meaning sources.old }
     ensures filters { map F.Filter.passes filters.new ≡ map F.Filter.passes filters.old }
-    ensures made { Made (map S.Source.meaning sources.old) (map F.Filter.passes filters.old) C.Cost.rules call resolver.old.core outputs.old result outputs.new resolver.new.core }
+    ensures made { Made (map S.Source.meaning sources.old) (map F.Filter.passes filters.old) C.Cost.rules
+        call resolver.old.core outputs.old result outputs.new resolver.new.core }
 {
     // sources and filters by index: nothing is known of a slice's elements after `get_mut`
     if call.places() > outputs.len() {

@@ -12,8 +12,8 @@ use ladder::rules::Cost;
 use resolver::{LentTables, Resolver, Setup};
 use sources::Source;
 
-// Puts an element in its place. A function of its own, since the size of an answer depends on the cost: no proof closed that its place in memory is in
-// range where `replay` writes it by index, or goes over the places with `iter_mut`.
+// Puts an element in its place. A function of its own, since the size of an answer depends on the cost: tried by index and by `iter_mut` in `replay`
+// itself, and the proof did not close that the place in memory is in range.
 fn put<T: Drop>(xs: &mut [T], i: usize, x: T)
     requires { i < length xs.old }
     ensures { xs.new ≡ slice_set xs.old i x }
@@ -33,9 +33,12 @@ pub fn replay<'t, C: Cost, S: Source, F: Filter>(
     answers: &mut [Answer<C>],
     outputs: &mut [Step],
 ) -> usize
-    ensures made { result ≡ length (events (map S.Source.meaning sources.old) (map F.Filter.passes filters.old) calls.now answers.new outputs.old outputs.new) }
-    ensures promise { Promised C.Cost.rules (opened_over setup tables.entry) (events (map S.Source.meaning sources.old) (map F.Filter.passes filters.old) calls.now answers.new outputs.old outputs.new) }
-    ensures spared { (drop result answers.new ≡ drop result answers.old) × (drop (all_places (take result calls.now)) outputs.new ≡ drop (all_places (take result calls.now)) outputs.old) }
+    ensures made { result ≡ length
+        (events (map S.Source.meaning sources.old) (map F.Filter.passes filters.old) calls.now answers.new outputs.old outputs.new) }
+    ensures promise { Promised C.Cost.rules (opened_over setup tables.entry)
+        (events (map S.Source.meaning sources.old) (map F.Filter.passes filters.old) calls.now answers.new outputs.old outputs.new) }
+    ensures spared { (drop result answers.new ≡ drop result answers.old)
+        × (drop (all_places (take result calls.now)) outputs.new ≡ drop (all_places (take result calls.now)) outputs.old) }
     ensures sources { map S.Source.meaning sources.new ≡ map S.Source.meaning sources.old }
     ensures filters { map F.Filter.passes filters.new ≡ map F.Filter.passes filters.old }
 {
