@@ -1,6 +1,5 @@
 // The listing of a job.
 ghost use Rattle.std.specs.Prelude.{IsErr};
-ghost use Rattle.resolver.specs.Sound.{Sound};
 
 use crate::lines::{Ending, head_line, last_line, track_line};
 use crate::printing::Printed;
@@ -29,10 +28,7 @@ fn add_all<C: Printed, S: Source>(
     resolver: &mut Resolver<C>,
     source: &mut S,
     n: u16,
-) -> Result<(), Refusal>
-    requires { Sound C.Cost.rules resolver.old.core }
-    ensures { Sound C.Cost.rules resolver.new.core }
-{
+) -> Result<(), Refusal> {
     for w in 0..n {
         resolver.add(source, w)?;
     }
@@ -45,7 +41,6 @@ fn list_tracks<C: Printed>(
     steps: &mut [Step],
     text: &mut Text,
 ) -> Result<(), Refusal>
-    requires { Sound C.Cost.rules resolver.old.core }
     ensures { IsErr result }
 {
     loop {
@@ -57,7 +52,6 @@ fn list_tracks<C: Printed>(
 // The listing of a resolver whose waypoints are added, up to the refusal that ends it. A resolver and a text go together here and in `list_tracks`
 // alone: a struct of the two would be a type more, with no fact of its own.
 fn list_closed<C: Printed>(resolver: &mut Resolver<C>, text: &mut Text) -> Result<(), Refusal>
-    requires { Sound C.Cost.rules resolver.old.core }
     ensures { IsErr result }
 {
     let rungs = resolver.close()?;
@@ -67,11 +61,7 @@ fn list_closed<C: Printed>(resolver: &mut Resolver<C>, text: &mut Text) -> Resul
 }
 
 // The listing of a job file, up to what ends it.
-fn list_file<C: Printed>(
-    file: &[u8],
-    tables: LentTables<C>,
-    text: &mut Text,
-) -> Result<(), Ending>
+fn list_file<C: Printed>(file: &[u8], tables: LentTables<C>, text: &mut Text) -> Result<(), Ending>
     ensures { IsErr result }
 {
     let job = job::read(file)?;
