@@ -1,7 +1,7 @@
 // Lists one job after another: each is preceded by its length in two bytes, the low one first.
 #![tactic(auto)]
 
-use anyhow::anyhow;
+use anyhow::bail;
 use listing::list;
 use std::io::Read;
 
@@ -20,7 +20,7 @@ fn run(rt: &HostRuntime) -> anyhow::Result<()> {
     while let [low, high, jobs @ ..] = rest {
         let size = u16::from_le_bytes([*low, *high]) as usize;
         let Some((job, later)) = jobs.split_at_checked(size) else {
-            return Err(anyhow!("a job is cut short"));
+            bail!("a job is cut short");
         };
         list_one(rt, job)?;
         rest = later;

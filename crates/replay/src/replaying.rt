@@ -45,6 +45,7 @@ pub fn replay<'t, C: Cost, S: Source, F: Filter>(
     let mut resolver = Resolver::open(setup, tables);
     // the places that calls before took; with the outputs split at each call the loop has a line more, and a slice to move on
     let mut used = 0;
+    // answers go by number and not by `zip`: nothing is known of what is written through an adapter of `iter_mut`
     for (k, call) in calls.iter().enumerate() {
         if k >= answers.len() {
             return k;
