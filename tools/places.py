@@ -54,7 +54,11 @@ def functions():
         text = text.split("#[cfg(test)]\nmod tests {")[0]
         for m in re.finditer(r"^( *)(?:pub(?:\([a-z]+\))? )?(?:final )?fn (\w+)", text, re.M):
             indent = m.group(1)
-            end = re.search(rf"^{indent}(\}}|\{{\}})$|;\n", text[m.end() :], re.M)
+            rest = text[m.end() :]
+            end = re.search(rf"^{indent}(\}}|\{{\}})$", rest, re.M)
+            declared = re.match(r"[^{}]*(?:\{[^{}]*\}\s*)*?;\n", rest)
+            if declared and (not end or declared.end() < end.start()) and f"\n{indent}{{\n" not in declared.group(0):
+                end = declared
             whole = text[m.start() : m.end() + end.end()] if end else text[m.start() :]
             head, _, body = whole.partition(f"\n{indent}{{\n")
             if not body and whole.split("\n")[0].endswith("{"):

@@ -42,7 +42,8 @@ pub struct Candidate<C> {
 }
 
 // A pose of a rung: how many candidates wait at it, how many ranks are found there and where the last of them lies, and whether the
-// successor of that one's front has yet to be entered as a candidate. `found` says whether `last` means anything, which an `Option` would say again.
+// successor of that one's front has yet to be entered as a candidate. `found` says whether `last` means
+// anything, which an `Option` would say again; `pending` says what is still to be done, and no value goes with it.
 #[derive(Clone, Copy, PartialEq, Eq, Debug, Default)]
 pub struct Station {
     pub pose: Pose,

@@ -90,7 +90,8 @@ fn take_first<T: Ordered>(full: &mut [T]) -> T
     first
 }
 
-// Puts x behind the first `len` of `slots`, a heap, and brings it to its place.
+// Puts x behind the first `len` of `slots`, a heap, and brings it to its place. This and `take` have the slots and their count apart, as a heap
+// holds them, and state in one definition what a push and a pop come to.
 fn put<T: Ordered>(slots: &mut [T], len: usize, x: T)
     requires { len < length slots.old }
     ensures { Pushed T.valid T.before slots.old len x slots.new (len + 1) }

@@ -9,7 +9,7 @@ use Rattle.job.specs.declared.faults.Question.TheVariants.{Whole, Map}
 use Rattle.job.specs.declared.faults.Fault.{Fault}
 use Rattle.job.specs.declared.header.Header.{Header}
 use Rattle.job.specs.declared.records.Record.{Record}
-use Rattle.job.specs.declared.records.Records.{Records}
+use Rattle.job.specs.declared.reader.Records.{Records}
 use Rattle.job.specs.Contents.{Entry}
 use Rattle.job.specs.Layout.{Piece, written, entry_pieces, EntryFits}
 use Rattle.job.specs.Bytes.{lacks}

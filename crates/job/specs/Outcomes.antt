@@ -4,7 +4,7 @@ use Rattle.job.specs.declared.faults.Question.{Question}
 use Rattle.job.specs.declared.faults.Fault.{Fault}
 use Rattle.job.specs.declared.header.Header.{Header}
 use Rattle.job.specs.declared.records.Record.{Record}
-use Rattle.job.specs.declared.records.Records.{Records}
+use Rattle.job.specs.declared.reader.Records.{Records}
 use Rattle.job.specs.declared.jobs.Job.{Job}
 use Rattle.job.specs.Contents.{Head, Contents}
 use Rattle.job.specs.Layout.{Piece, written, head_pieces, entry_pieces, encode, HeadFits, EntryFits, Fits}

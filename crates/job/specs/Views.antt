@@ -7,7 +7,7 @@ use Rattle.job.specs.declared.faults.Fault.{Fault}
 use Rattle.job.specs.declared.cursor.Part.{Part}
 use Rattle.job.specs.declared.records.Record.{Record}
 use Rattle.job.specs.declared.cursor.Cursor.{Cursor}
-use Rattle.job.specs.declared.records.Records.{Records}
+use Rattle.job.specs.declared.reader.Records.{Records}
 use Rattle.job.specs.declared.header.Header.{Header}
 use Rattle.job.specs.Contents.{Entry, Head}
 use Rattle.job.specs.Reading.{Out, got, fault, Read}

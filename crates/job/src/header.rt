@@ -5,7 +5,7 @@ ghost use Rattle.job.specs.Views.{Reads, begun, opened, head_v};
 
 use crate::cursor::Cursor;
 use crate::faults::{Fault, Question};
-use crate::records::Records;
+use crate::reader::Records;
 use crate::values::Arm;
 use ladder::poses::Limits;
 

@@ -8,6 +8,7 @@ ghost use Rattle.job.specs.Views.{Reads, record_v, Lies, Places, field_v, Withou
 
 use crate::cursor::{Cursor, Guard, Part};
 use crate::faults::{Fault, Question};
+pub use crate::reader::Records;
 
 // The fields of one record that are still to be handed out.
 #[derive(Clone, Copy)]
@@ -77,13 +78,6 @@ impl<'a> Cursor<'a> {
         let note = self.optional(map & NOTE != 0, Cursor::next_note)?;
         Ok(Record { x, y, poses, note })
     }
-}
-
-// A file's records from the cursor on.
-#[derive(Drop)]
-pub struct Records<'a> {
-    pub(crate) cursor: Cursor<'a>,
-    pub(crate) left: u16,
 }
 
 impl<'a> Records<'a> {

@@ -5,7 +5,8 @@ ghost use Rattle.job.specs.Rows.{row_v, in_use, entered};
 ghost use Rattle.job.specs.Views.{Reads, record_v, field_v};
 
 use crate::faults::Fault;
-use crate::records::{Field, Record, Records};
+use crate::reader::Records;
+use crate::records::{Field, Record};
 use crate::rows::{Row, Table};
 use crate::values::Position;
 
@@ -33,7 +34,6 @@ fn row_of<'a>(fields: Record<'a>, before: Position) -> Row<'a>
 
 // Reads the records into rows, one for each.
 pub(crate) fn read_rows<'a>(records: &mut Records<'a>) -> Result<Table<'a>, Fault>
-    requires { records.old.left ≤ 128 }
     ensures { Reads (λ t. map row_v (in_use t)) (via (waypoints origin) (many records.old.left entry)) records.old.cursor records.new.cursor result }
 {
     let mut table = Table::new();

@@ -1,4 +1,5 @@
-// Poses of an arm with two joints, and the moves between them.
+// Poses of an arm with two joints, and the moves between them. Each type here holds a value for each joint; they are types of their own, and not one
+// with a parameter, so that no turns can stand for limits, and no number of a pose for another number.
 ghost use Rattle.std.specs.Prelude.{◌≡◌};
 ghost use Rattle.ladder.specs.Moves.{turns, within};
 
@@ -20,7 +21,7 @@ pub struct Step {
     pub pose: Pose,
 }
 
-// How far each joint turns in one move. A type of its own, though it has the fields of `Limits`, so that neither is taken for the other.
+// How far each joint turns in one move.
 #[derive(Clone, Copy, PartialEq, Eq, Debug)]
 pub struct Turns {
     pub shoulder: u16,

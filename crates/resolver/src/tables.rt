@@ -101,7 +101,7 @@ impl<'t, C: Cost> Core<'t, C> {
         self.stations[self.station_place(r, v)] = s;
     }
 
-    // Writes the track at a place of rung r's ranked block.
+    // Writes the track at a place of rung r's ranked block. Another call than `put_station`, as it writes another table and speaks of it.
     pub(crate) fn put_track(&mut self, r: usize, at: Place, e: Ranked<C>)
         requires { r < self.old.rung_limit }
         ensures same { Same self.old self.new }

@@ -12,7 +12,7 @@ use std::cmp::Ordering;
 // How often a turn of the shoulder counts.
 const SHOULDER: u32 = 3;
 
-// The weighted sum of all turns.
+// The weighted sum of all turns. It is made as travel is, with another factor, and stays a type of its own: it shows that a cost can be made outside.
 #[derive(Clone, Copy, PartialEq, Eq, PartialOrd, Ord, Debug)]
 pub struct Weighted {
     pub total: u32,

@@ -11,4 +11,4 @@ returns-in_err-header-clause-law c = open_law c.args.file.now (λ i. (c.type_inv
 pub returns-clause-law : goal.returns-clause-law
 returns-clause-law c =
     let h = c.in_ok-header in
-    open_law c.args.file.now (λ i. (c.type_inv.file i).fits) (Ok (h.header, record { cursor = c.next_header.new.self; left = h.left })) (search rules)
+    open_law c.args.file.now (λ i. (c.type_inv.file i).fits) (Ok (h.header, record { cursor = c.next_header.new.self; left = h.left; few = h.ensures.few })) (search rules)

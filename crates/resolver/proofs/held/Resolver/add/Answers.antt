@@ -38,8 +38,8 @@ returns-clause-outcome g c =
     let n = c.count-n.ensures.value in
     let grown : c.append_from.result ≡ length (book k).rungs + 1 = omega (arith, l, c.append_from.ensures.count.0) in
     ∥∥₁_elim c.args.self.now.sound (one_outcome g.row.C.coded _ _) (λ s.
-        let after : book m ≡ with_rung (book k) list = (added g.C.Cost.rules k m list c.append_from.ensures.grown s c.if-self.false (omega (arith, n, c.if-n-eq0.false)) (ap (λ f. f c.args.waypoint) c.count-n.ensures.same) c.append_from.ensures.effect).1 in
-        (λ i. record { answer = counted (grown i); output = []; book = after i }) ∙ adding_done (book k) list (length (book k).rungs + 1) (add_done (book k) list c.if-self.false (omega (arith, l, c.if-self-2.false)) (omega (arith, n, c.if-n-eq0.false)) (omega (arith, n, c.if-n-gt16.false))))
+    let after : book m ≡ with_rung (book k) list = (added g.C.Cost.rules k m list c.append_from.ensures.grown s c.if-self.false (omega (arith, n, c.if-n-eq0.false)) (ap (λ f. f c.args.waypoint) c.count-n.ensures.same) c.append_from.ensures.effect).1 in
+    (λ i. record { answer = counted (grown i); output = []; book = after i }) ∙ adding_done (book k) list (length (book k).rungs + 1) (add_done (book k) list c.if-self.false (omega (arith, l, c.if-self-2.false)) (omega (arith, n, c.if-n-eq0.false)) (omega (arith, n, c.if-n-gt16.false))))
 
 pub invariant_of-self : goal.invariant_of-self
 invariant_of-self g c =

@@ -16,5 +16,5 @@ pub invariant_of-self : goal.invariant_of-self
 invariant_of-self g c =
     let k = c.args.self.now.core in
     let sound = ∥∥₁_map {B = Sound g.C.Cost.rules (record k { closed = true })} c.args.self.now.sound
-        (λ s. record { rungs = s.rungs; blocks = s.blocks; ranks = s.ranks; untaken = λ e. absurd (false≢true (sym e)); heads = s.heads }) in
+    (λ s. record { rungs = s.rungs; blocks = s.blocks; ranks = s.ranks; untaken = λ e. absurd (false≢true (sym e)); heads = s.heads }) in
     ((k.shoulder, (k.elbow, (k.limited, (k.rationed, (k.held, (k.drawn, (k.stations_fit, (k.ranked_fit, (k.candidates_fit, (k.wide, tt)))))))))), (sound, tt))

@@ -1,6 +1,6 @@
 use Rattle.std.proofs.Common.{Some, Ok, rules}
 use Rattle.job.proofs.Steps.{next_law}
-use Rattle.job.proofs.records.Records.next_record.Goals as goal
+use Rattle.job.proofs.reader.Records.next_record.Goals as goal
 
 pub returns-in_err-record-clause-law : goal.returns-in_err-record-clause-law
 returns-in_err-record-clause-law c =
