@@ -1,5 +1,5 @@
 -- What an envelope passes, and when one is made. Assumes nothing.
-use Rattle.std.specs.Prelude.{ℕ, Bool, cond, ◌&&◌, List, ℤ, Ok, Err, Result, int_le}
+use Rattle.std.specs.Prelude.{ℕ, Bool, if◌then◌else◌, ◌&&◌, List, ℤ, Ok, Err, Result, int_le}
 use Rattle.std.specs.List.{list_all}
 use Rattle.std.specs.Result.{result_map_both}
 use Rattle.ladder.specs.declared.poses.Pose.{Pose}
@@ -30,4 +30,4 @@ made spans answered = result_map_both spans refusal_number answered
 
 -- two spans whose lows are at most their highs are made an envelope, and others are refused
 abbrev pub due : Span → Span → Result (Span × Span) ℕ
-due s e = cond (int_le s.low s.high && int_le e.low e.high) (Ok (s, e)) (Err 16)
+due s e = if int_le s.low s.high && int_le e.low e.high then Ok (s, e) else Err 16

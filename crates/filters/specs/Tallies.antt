@@ -1,5 +1,5 @@
 -- One step of a count of reversals. Assumes nothing.
-use Rattle.std.specs.Prelude.{◌+◌, Bool, false, cond, ℤ, ◌-ℤ◌, Some, None, Option}
+use Rattle.std.specs.Prelude.{◌+◌, Bool, false, if◌then◌else◌, ℤ, ◌-ℤ◌, Some, None, Option}
 use Rattle.filters.specs.declared.turning.Tally.{Tally}
 use Rattle.filters.specs.Turning.{moves, opposite}
 
@@ -12,6 +12,6 @@ turns_back (Some a) d = opposite a d
 abbrev pub gone_on : Tally → ℤ → Tally
 gone_on t s = record {
   shoulder = s;
-  turn = cond (moves (s -ℤ t.shoulder)) (Some (s -ℤ t.shoulder)) t.turn;
-  reversals = t.reversals + cond (turns_back t.turn (s -ℤ t.shoulder)) 1 0;
+  turn = if moves (s -ℤ t.shoulder) then Some (s -ℤ t.shoulder) else t.turn;
+  reversals = t.reversals + (if turns_back t.turn (s -ℤ t.shoulder) then 1 else 0);
 }

@@ -1,5 +1,5 @@
 -- How often the shoulder turns back over the steps of a track. Assumes nothing.
-use Rattle.std.specs.Prelude.{ℕ, zero, suc, ◌+◌, Bool, true, false, cond, ◌&&◌, ◌||◌, List, [], ◌∷◌, map, ℤ, pos, negsuc, ◌-ℤ◌, filter, int_lt}
+use Rattle.std.specs.Prelude.{ℕ, zero, suc, ◌+◌, Bool, true, false, if◌then◌else◌, ◌&&◌, ◌||◌, List, [], ◌∷◌, map, ℤ, pos, negsuc, ◌-ℤ◌, filter, int_lt}
 use Rattle.ladder.specs.declared.poses.Step.{Step}
 
 -- each count less the one before it
@@ -22,7 +22,7 @@ opposite a b = (int_lt (pos 0) a && int_lt b (pos 0)) || (int_lt a (pos 0) && in
 abbrev pub opposites : List ℤ → ℕ
 opposites [] = 0
 opposites (a ∷ []) = 0
-opposites (a ∷ (b ∷ cs)) = cond (opposite a b) 1 0 + opposites (b ∷ cs)
+opposites (a ∷ (b ∷ cs)) = (if opposite a b then 1 else 0) + opposites (b ∷ cs)
 
 -- the shoulder's counts
 abbrev pub shoulders : List Step → List ℤ

@@ -1,5 +1,5 @@
 -- Numbers as bytes, low byte first, and maps as bits.
-use Rattle.std.specs.Prelude.{ℕ, zero, suc, ◌+◌, ◌*◌, ◌/◌, ◌%◌, Bool, cond, not, ◌&&◌, List, [], ◌∷◌, ◌++◌, length, ℤ, ◌==◌, bit_and, nat_le, slice_index}
+use Rattle.std.specs.Prelude.{ℕ, zero, suc, ◌+◌, ◌*◌, ◌/◌, ◌%◌, Bool, if◌then◌else◌, not, ◌&&◌, List, [], ◌∷◌, ◌++◌, length, ℤ, ◌==◌, bit_and, nat_le, slice_index}
 use Rattle.std.proofs.Common.{to_z, of_z}
 use Rattle.std.specs.Int.{w16}
 use Rattle.ladder.specs.declared.poses.Pose.{Pose}
@@ -55,4 +55,4 @@ lacks mask m = bit_and m mask == 0
 
 -- A bit of weight w, if it is set.
 abbrev pub bit : Bool → ℕ → ℕ
-bit b w = cond b w 0
+bit b w = if b then w else 0

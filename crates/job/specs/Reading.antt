@@ -1,5 +1,5 @@
 -- How the bytes of a job file are read, place by place. The contract of `read` ties it to the layout.
-use Rattle.std.specs.Prelude.{ℕ, zero, suc, ◌+◌, ◌*◌, Bool, cond, ◌&&◌, List, [], ◌∷◌, length, take, drop, ℤ, Some, None, Option, ◌==◌, nat_le, slice_index}
+use Rattle.std.specs.Prelude.{ℕ, zero, suc, ◌+◌, ◌*◌, Bool, if◌then◌else◌, ◌&&◌, List, [], ◌∷◌, length, take, drop, ℤ, Some, None, Option, ◌==◌, nat_le, slice_index}
 use Rattle.job.specs.declared.faults.Question.{Question}
 use Rattle.job.specs.declared.faults.Question.TheVariants.{Letters, Map, Whole, Range, End}
 use Rattle.ladder.specs.declared.poses.Limits.{Limits}
@@ -24,15 +24,15 @@ Read A = List ℕ → ℕ → Out A
 
 -- A field of k bytes that means `value`.
 abbrev pub whole : {A : Type 0} → ℕ → (List ℕ → ℕ → A) → Read A
-whole k value s p = cond (nat_le (p + k) (length s)) (got (value s p) (p + k)) (fault Whole p)
+whole k value s p = if nat_le (p + k) (length s) then got (value s p) (p + k) else fault Whole p
 
 -- Only values that pass a test; another gets a no to the question, at its first byte.
 abbrev pub only : {A : Type 0} → Question → (A → Bool) → Read A → Read A
-only q ok r s p = and_then (r s p) (λ a e. cond (ok a) (got a e) (fault q p))
+only q ok r s p = and_then (r s p) (λ a e. if ok a then got a e else fault q p)
 
 -- There only if b.
 abbrev pub opt : {A : Type 0} → Bool → Read A → Read (Option A)
-opt b r s p = cond b (and_then (r s p) (λ a q. got (Some a) q)) (got None p)
+opt b r s p = if b then and_then (r s p) (λ a q. got (Some a) q) else got None p
 
 -- One after the other.
 abbrev pub pair : {A B : Type 0} → Read A → Read B → Read (A × B)
@@ -97,7 +97,7 @@ letters_at s p = nat_le (p + 4) (length s) && (slice_index s p == 84 && (slice_i
 
 -- The letters TLAD.
 abbrev pub letters : Read (Unit {0})
-letters s p = cond (letters_at s p) (got tt (p + 4)) (fault Letters p)
+letters s p = if letters_at s p then got tt (p + 4) else fault Letters p
 
 -- The letters and the map.
 abbrev pub opening : Read ℕ
@@ -141,7 +141,7 @@ contents = under heading (λ h. via (λ l. record { head = h.0; records = l }) (
 
 -- A whole file: a job, and nothing after it.
 abbrev pub file_out : List ℕ → Out Contents
-file_out s = and_then (contents s 0) (λ j q. cond (q == length s) (got j q) (fault End q))
+file_out s = and_then (contents s 0) (λ j q. if q == length s then got j q else fault End q)
 
 -- The value that was read, if any.
 abbrev pub accepted : {A : Type 0} → Out A → Option A

@@ -1,5 +1,5 @@
 -- Which refusal a file gets: the first question in file order that gets a no.
-use Rattle.std.specs.Prelude.{◌≡◌, ℕ, ◌+◌, Bool, cond, List, [], ◌∷◌, ◌++◌, map, length, take, drop, Some, None, Option}
+use Rattle.std.specs.Prelude.{◌≡◌, ℕ, ◌+◌, Bool, if◌then◌else◌, List, [], ◌∷◌, ◌++◌, map, length, take, drop, Some, None, Option}
 use Rattle.job.specs.declared.faults.Question.{Question}
 use Rattle.job.specs.Layout.{Piece, written, job_pieces, Fits}
 
@@ -17,7 +17,7 @@ questions s p (c ∷ l) = map (λ a. record { question = a.question; place = p; 
 -- The first question that got a no, with its place.
 abbrev pub first_no : List Put → Option (Question × ℕ)
 first_no [] = None
-first_no (a ∷ l) = cond a.answer (first_no l) (Some (a.question, a.place))
+first_no (a ∷ l) = if a.answer then first_no l else Some (a.question, a.place)
 
 -- To the bytes s, of which a value with these fields is read, the first no is that to question q at place k.
 -- Up to there the bytes are those of some value that fits; its fields put the questions.

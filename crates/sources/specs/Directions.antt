@@ -1,5 +1,5 @@
 -- The sines and cosines of the directions, 64 to a turn, times 10,000. Assumes nothing.
-use Rattle.std.specs.Prelude.{◌≡◌, ℕ, ◌+◌, ◌-◌, ◌%◌, ◌<◌, ◌≤◌, cond, List, [], ◌∷◌, ℤ, pos, neg_ℤ, nat_le, nat_lt, slice_index}
+use Rattle.std.specs.Prelude.{◌≡◌, ℕ, ◌+◌, ◌-◌, ◌%◌, ◌<◌, ◌≤◌, if◌then◌else◌, List, [], ◌∷◌, ℤ, pos, neg_ℤ, nat_le, nat_lt, slice_index}
 
 -- the sines of directions 0 to 16, a quarter turn
 abbrev pub quarter : List ℕ
@@ -7,11 +7,11 @@ quarter = 0 ∷ 980 ∷ 1951 ∷ 2903 ∷ 3827 ∷ 4714 ∷ 5556 ∷ 6344 ∷ 70
 
 -- of directions 0 to 32: the second quarter mirrors the first
 abbrev pub half : ℕ → ℕ
-half d = cond (nat_le d 16) (slice_index quarter d) (slice_index quarter (32 - d))
+half d = if nat_le d 16 then slice_index quarter d else slice_index quarter (32 - d)
 
 -- of every direction: the second half of a turn is the first with the other sign
 abbrev pub sine : ℕ → ℤ
-sine d = cond (nat_lt (d % 64) 32) (pos (half (d % 64))) (neg_ℤ (pos (half (d % 64 - 32))))
+sine d = if nat_lt (d % 64) 32 then pos (half (d % 64)) else neg_ℤ (pos (half (d % 64 - 32)))
 
 -- the sine a quarter turn on
 abbrev pub cosine : ℕ → ℤ

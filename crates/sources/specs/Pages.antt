@@ -1,5 +1,5 @@
 -- What a page of found poses keeps. Assumes nothing.
-use Rattle.std.specs.Prelude.{◌≡◌, ℕ, ◌+◌, ◌-◌, ◌<◌, ◌≤◌, cond, List, replicate, fold, nat_lt, slice_set}
+use Rattle.std.specs.Prelude.{◌≡◌, ℕ, ◌+◌, ◌-◌, ◌<◌, ◌≤◌, if◌then◌else◌, List, replicate, fold, nat_lt, slice_set}
 use Rattle.ladder.specs.declared.poses.Pose.{Pose}
 use Rattle.sources.specs.declared.pages.Page.{Page}
 use Rattle.sources.specs.Reach.{pose}
@@ -13,7 +13,7 @@ abbrev pub with_pose : Page → Pose → Page
 with_pose g p = record {
   from = g.from;
   count = g.count + 1;
-  poses = cond (nat_lt g.count g.from) g.poses (slice_set g.poses (g.count - g.from) p);
+  poses = if nat_lt g.count g.from then g.poses else slice_set g.poses (g.count - g.from) p;
 }
 
 -- the page of a list, which puts its poses one after the other
