@@ -1,5 +1,5 @@
 // A count of the poses found, with some of them.
-ghost use Rattle.std.specs.Prelude.{◌≡◌, ◌+◌, ◌^◌, ◌<◌, List, [], length, Decides};
+ghost use Rattle.std.specs.Prelude.{◌≡◌, ◌+◌, ◌^◌, ◌<◌, List, [], length, IsTrue, ◌↔◌};
 ghost use Rattle.std.specs.List.{slice_get};
 ghost use Rattle.ladder.specs.declared.poses.Pose.{Pose};
 ghost use Rattle.sources.specs.Pages.{with_pose, page_of, Shows, Covers};
@@ -40,7 +40,7 @@ impl Page {
 
     // Whether a number is one of the sixteen.
     pub fn covers(&self, number: usize) -> bool
-        ensures { Decides result (Covers self.now number) }
+        ensures { IsTrue result ↔ Covers self.now number }
     {
         self.from <= number && number - self.from < 16
     }
