@@ -1,7 +1,7 @@
 // Adding, closing, next and seeking.
 ghost use Rattle.std.specs.Prelude.{◌≡◌, ◌+◌, ◌<◌, ◌≤◌, true, false, [], length, MatchResult, OnOk};
 ghost use Rattle.book.specs.Book.{adding, closing, nexting, seeking};
-ghost use Rattle.resolver.specs.Sound.{SetupKept};
+ghost use Rattle.resolver.specs.Sound.{Sound, SetupKept};
 ghost use Rattle.resolver.specs.Answers.{count_answer, track_answer};
 ghost use Rattle.resolver.specs.Adding.{AddsRung, GrownByARung};
 ghost use Rattle.resolver.specs.Calls.{Unready};
@@ -48,6 +48,7 @@ impl<'t, C: Cost> Resolver<'t, C> {
     // Adds a rung that holds the source's list at the waypoint; answers the new rung count.
     pub fn add<S: Source>(&mut self, source: &mut S, waypoint: u16) -> Result<usize, Refusal>
         ensures outcome { record { answer = count_answer {V = C} result; output = []; book = book self.new.core } ≡ adding (book self.old.core) (S.Source.meaning source.old waypoint) }
+        ensures sound { Sound C.Cost.rules self.old.core → Sound C.Cost.rules self.new.core }
         ensures same { S.Source.meaning source.new ≡ S.Source.meaning source.old }
     {
         if self.core.closed {
@@ -70,6 +71,7 @@ impl<'t, C: Cost> Resolver<'t, C> {
     // Closes the ladder; answers the rung count.
     pub fn close(&mut self) -> Result<usize, Refusal>
         ensures outcome { record { answer = count_answer {V = C} result; output = []; book = book self.new.core } ≡ closing (book self.old.core) }
+        ensures sound { Sound C.Cost.rules self.old.core → Sound C.Cost.rules self.new.core }
     {
         if self.core.closed {
             return Err(Refusal::Closed);
@@ -96,6 +98,7 @@ impl<'t, C: Cost> Resolver<'t, C> {
         requires closed { self.old.core.closed ≡ true }
         requires out { self.old.core.rungs ≤ length out.old }
         ensures outcome { record { answer = track_answer result; output = out.new; book = book self.new.core } ≡ nexting C.Cost.rules (book self.old.core) out.old }
+        ensures sound { Sound C.Cost.rules self.old.core → Sound C.Cost.rules self.new.core }
         ensures kept { SetupKept self.old.core self.new.core }
         ensures counts { OnOk result (self.new.core.taken ≡ self.old.core.taken + 1) }
     {
@@ -108,6 +111,7 @@ impl<'t, C: Cost> Resolver<'t, C> {
     // Takes the first untaken track of the list: answers its number and cost, and writes its steps to the first places of `out`.
     pub fn next(&mut self, out: &mut [Step]) -> Result<Taken<C>, Refusal>
         ensures outcome { record { answer = track_answer result; output = out.new; book = book self.new.core } ≡ nexting C.Cost.rules (book self.old.core) out.old }
+        ensures sound { Sound C.Cost.rules self.old.core → Sound C.Cost.rules self.new.core }
     {
         self.ready(out.len())?;
         self.take(out)
@@ -117,6 +121,7 @@ impl<'t, C: Cost> Resolver<'t, C> {
     // places of `out`. Those that are turned down are taken too, and where none passes the last of them stays in `out`.
     pub fn seek<F: Filter>(&mut self, filter: &mut F, out: &mut [Step]) -> Result<Taken<C>, Refusal>
         ensures outcome { record { answer = track_answer result; output = out.new; book = book self.new.core } ≡ seeking C.Cost.rules (book self.old.core) (F.Filter.passes filter.old) out.old }
+        ensures sound { Sound C.Cost.rules self.old.core → Sound C.Cost.rules self.new.core }
         ensures same { F.Filter.passes filter.new ≡ F.Filter.passes filter.old }
     {
         self.ready(out.len())?;

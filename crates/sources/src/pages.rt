@@ -28,7 +28,7 @@ impl Page {
     }
 
     // One pose more.
-    pub fn put(&mut self, found: Pose)
+    pub(crate) fn put(&mut self, found: Pose)
         requires { self.old.count + 1 < 2 ^ 64 }
         ensures { self.new ≡ with_pose self.old found }
     {

@@ -41,6 +41,11 @@ returns-clause-outcome g c =
     let after : book m ≡ with_rung (book k) list = (added g.C.Cost.rules k m list c.append_from.ensures.grown s c.if-self.false (omega (arith, n, c.if-n-eq0.false)) (ap (λ f. f c.args.waypoint) c.count-n.ensures.same) c.append_from.ensures.effect).1 in
     (λ i. record { answer = counted (grown i); output = []; book = after i }) ∙ adding_done (book k) list (length (book k).rungs + 1) (add_done (book k) list c.if-self.false (omega (arith, l, c.if-self-2.false)) (omega (arith, n, c.if-n-eq0.false)) (omega (arith, n, c.if-n-gt16.false))))
 
+pub returns-clause-sound : goal.returns-clause-sound
+returns-clause-sound g c =
+    let n = c.count-n.ensures.value in
+    λ s. (added g.C.Cost.rules c.args.self.now.core c.append_from.new.self (g.S.Source.meaning c.args.source.now c.args.waypoint) c.append_from.ensures.grown s c.if-self.false (omega (arith, n, c.if-n-eq0.false)) (ap (λ f. f c.args.waypoint) c.count-n.ensures.same) c.append_from.ensures.effect).0
+
 pub invariant_of-self : goal.invariant_of-self
 invariant_of-self g c =
     let n = c.count-n.ensures.value in

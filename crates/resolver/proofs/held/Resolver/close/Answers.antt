@@ -7,10 +7,13 @@ use Rattle.resolver.specs.Standing.{book}
 use Rattle.resolver.proofs.Rungs.{many}
 use Rattle.resolver.proofs.held.Resolver.close.Goals as goal
 
-pub returns : goal.returns
-returns g c =
+pub returns-clause-outcome : goal.returns-clause-outcome
+returns-clause-outcome g c =
     let k = c.args.self.now.core in
-    record { outcome = closing_done (book k) c.if-self.false k.rungs (many k) }
+    closing_done (book k) c.if-self.false k.rungs (many k)
+
+pub returns-clause-sound : goal.returns-clause-sound
+returns-clause-sound g c = λ s. record { rungs = s.rungs; blocks = s.blocks; ranks = s.ranks; untaken = λ e. absurd (false≢true (sym e)); heads = s.heads }
 
 pub invariant_of-self : goal.invariant_of-self
 invariant_of-self g c =

@@ -24,4 +24,5 @@ loop-taken-preserved g c =
       c.take.auto.out ∙ i.2,
       c.judge.ensures.same ∙ i.3,
       sought_turned g.C.Cost.rules g.met.C.Cost.lawful c.loop-taken.self.core c.take.new.self.core (g.F.Filter.passes c.args.filter.now) c.loop-taken.out c.take.new.out c.in_ok-taken.taken.number c.in_ok-taken.taken.cost e.outcome (judged_so (g.F.Filter.passes c.loop-taken.filter) (g.F.Filter.passes c.args.filter.now) c.judge.result c.take.new.self.core.rungs c.loop-taken.self.core.rungs c.take.new.out c.judge.ensures.value i.3 e.kept.rungs ∙ c.if-judge.false) ∙ i.4,
+      λ s. e.sound (i.5 s),
     )

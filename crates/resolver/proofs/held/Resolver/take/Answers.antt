@@ -24,5 +24,8 @@ returns-clause-outcome g c =
     let f = t.effect s c.requires.closed in
     rw c.ok_or.ensures.value (next_done g.C.Cost.rules g.met.C.Cost.lawful c.args.self.now.core c.take_next.new.self t.kept c.args.out.now c.take_next.new.out c.take_next.result c.requires.closed c.requires.out (omega (arith, c.if-self.false)) f.1 f.2))
 
+pub returns-clause-sound : goal.returns-clause-sound
+returns-clause-sound g c = λ s. (c.take_next.ensures.effect s c.requires.closed).0
+
 pub invariant_of-self : goal.invariant_of-self
 invariant_of-self g c = record { sound = ∥∥₁_map c.args.self.now.sound (λ s. (c.take_next.ensures.effect s c.requires.closed).0) }
