@@ -6,10 +6,6 @@ use Rattle.ladder.specs.Tracks.{Rung}
 use Rattle.book.specs.Book.{Book, Answer, counted, given, refused, accepted, add, close, add_answer, close_answer, adding, closing}
 use Rattle.book.specs.Runs.{Event, brought, closes, taken_after, left_by, Adds, Closes}
 
--- one answer is not two
-pub refused_is : {V : Type 0} {a : Answer V} {p q : ℕ} → a ≡ refused p → a ≡ refused q → p ≡ q
-refused_is {V} {a} {p} {q} x y = cc
-
 -- the book that an answer leaves
 abbrev left_of : {V : Type 0} → ℕ → Book → Event V → Answer V → Book
 left_of n b e a = record b {

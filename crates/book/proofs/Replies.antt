@@ -7,9 +7,6 @@ use Rattle.ladder.specs.Tracks.{Rung, Track, steps, cost}
 use Rattle.book.specs.Book.{Book, Answer, refused, counted, given, accepted, with_rung, shut, one_taken, written, add_answer, adding, close_answer, closing, next_answer, nexting_of}
 
 module _ {V : Type 0} (b : Book) (r : Rung) where
-  pub add_closed : b.closed ≡ true → add_answer {V = V} b r ≡ refused 3
-  add_closed o = rw o
-
   pub add_full : b.closed ≡ false → b.rung_limit ≤ length b.rungs → add_answer {V = V} b r ≡ refused 4
   add_full o h = grind (arith, nat_tests)
 

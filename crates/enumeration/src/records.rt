@@ -8,7 +8,7 @@ use ladder::poses::{Pose, PoseNumber};
 #[derive(Clone, Copy, PartialEq, Eq, PartialOrd, Ord, Debug, Default)]
 pub struct Rank(pub u16);
 
-// A place within the ranked block of one rung.
+// A place within the ranked block of one rung. Records point to one another by places: they lie in lent tables, and nothing is allocated.
 #[derive(Clone, Copy, PartialEq, Eq, PartialOrd, Ord, Debug, Default)]
 pub struct Place(pub u16);
 
@@ -20,7 +20,8 @@ pub struct Back {
 }
 
 // A found track: its cost, the pose where it ends and its rank there, the track that it extends and where that one lies
-// in the block of the rung before, and where the next rank at the same pose lies, once that is found.
+// in the block of the rung before, and where the next rank at the same pose lies, once that is found:
+// how many are found says so, so `after` is no `Option`.
 #[derive(Clone, Copy, PartialEq, Eq, Debug)]
 pub struct Ranked<C> {
     pub cost: C,
@@ -61,7 +62,7 @@ pub struct Extent {
 }
 
 impl Station {
-    // A station to fill a new table with; what it holds plays no part.
+    // A station to fill a new table with; what it holds plays no part. The three fillers go by one name, and a cost has no default.
     pub fn blank() -> Station
         ensures { result ≡ blank_station }
     {

@@ -46,11 +46,9 @@ fn sift_up<T: Ordered>(slots: &mut [T])
     ensures same { IsPermutation slots.old slots.new }
     ensures rises { OrderOn T.valid T.before → Valid T.valid slots.old (length slots.old) → Heaped T.before slots.old 0 (length slots.old - 1) → Stands T.valid T.before slots.new (length slots.old) }
 {
-    let mut at = slots.len();
-    if at == 0 {
+    let Some(mut at) = slots.len().checked_sub(1) else {
         return;
-    }
-    at -= 1;
+    };
     while at > 0 {
         let up = (at - 1) / 2;
         if !precedes(slots, at, up) {
@@ -90,8 +88,8 @@ fn take_first<T: Ordered>(full: &mut [T]) -> T
     first
 }
 
-// Puts x behind the first `len` of `slots`, a heap, and brings it to its place. This and `take` have the slots and their count apart, as a heap
-// holds them, and state in one definition what a push and a pop come to.
+// Puts x behind the first `len` of `slots`, a heap, and brings it to its place. This and `take` have the slots and their count apart: a heap
+// that is lent whole would have to be put together again for a step that speaks of the slots alone.
 fn put<T: Ordered>(slots: &mut [T], len: usize, x: T)
     requires { len < length slots.old }
     ensures { Pushed T.valid T.before slots.old len x slots.new (len + 1) }
@@ -108,7 +106,8 @@ fn take<T: Ordered>(slots: &mut [T], len: usize) -> T
     take_first(&mut slots[0..len])
 }
 
-// A heap: the first `len` of the slots are in use. The slots are lent by a host that may have no allocator, so no `Vec` holds them.
+// A heap: the first `len` of the slots are in use. The slots are lent by a host that may have no allocator, so no `Vec` holds them; and the host reads
+// them again, so each call says which slots they are, and no model hides them.
 #[derive(Drop)]
 pub struct Heap<'a, T> {
     slots: &'a mut [T],

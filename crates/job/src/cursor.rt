@@ -104,7 +104,7 @@ impl<'a> Cursor<'a> {
     }
 }
 
-// Puts the cursor back on drop, unless what it guards was done and no place to go back to is kept.
+// Puts the cursor back to the kept place on drop; where none is kept it stays.
 pub(crate) struct Guard<'g, 'a> {
     pub(crate) cursor: &'g mut Cursor<'a>,
     pub(crate) back: Option<usize>,

@@ -9,7 +9,7 @@ use crate::reader::Records;
 use crate::values::Arm;
 use ladder::poses::Limits;
 
-// The bits of the header's map, and those that name nothing.
+// The bits of the header's map, and those that name nothing: the file has them as numbers.
 const LIMITS: u8 = 1;
 
 const ARM: u8 = 2;

@@ -50,8 +50,7 @@ impl<'a> Job<'a> {
     pub fn position(&self, w: u16) -> Option<Position>
         ensures { result ≡ position_in (view self.now) w }
     {
-        let row = self.table.get(w)?;
-        Some(row.position)
+        self.table.get(w).map(|row| row.position)
     }
 
     // The bytes of the pose list of waypoint w.

@@ -19,8 +19,8 @@ fn scan<'a>(file: &'a [u8]) -> Result<Job<'a>, Fault>
 {
     let (header, mut records) = open(file)?;
     let limits = header.limits.unwrap_or(Limits {
-        shoulder: 65535,
-        elbow: 65535,
+        shoulder: u16::MAX,
+        elbow: u16::MAX,
     });
     let ration = header.ration.unwrap_or(4096);
     let table = read_rows(&mut records)?;

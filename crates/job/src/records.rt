@@ -28,7 +28,7 @@ pub enum Field<'a> {
     Note(Part<'a>),
 }
 
-// The bits of a record's map, and those that name nothing.
+// The bits of a record's map, and those that name nothing: the file has them as numbers.
 const X: u8 = 1;
 
 const Y: u8 = 2;
@@ -104,7 +104,8 @@ impl<'a> Records<'a> {
 }
 
 impl<'a> Record<'a> {
-    // Hands out the record's fields one by one, in bit order.
+    // Hands out the record's fields one by one, in bit order. Not by `map(Field::X)`: the check takes no function whose result names a lifetime that its
+    // argument does not.
     pub fn next_field(&mut self) -> Option<Field<'a>>
         ensures field { option_map field_v result ≡ first_of (unhanded self.old) }
         ensures others { unhanded self.new ≡ rest_of (unhanded self.old) }

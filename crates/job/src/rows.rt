@@ -45,7 +45,7 @@ impl<'a> Table<'a> {
     {
         Table {
             len: 0,
-            rows: [Row::bare(Position { x: 0, y: 0 }); 128],
+            rows: [Row::bare(Position::default()); 128],
         }
     }
 

@@ -37,7 +37,7 @@ pub(crate) fn read_rows<'a>(records: &mut Records<'a>) -> Result<Table<'a>, Faul
     ensures { Reads (λ t. map row_v (in_use t)) (via (waypoints origin) (many records.old.left entry)) records.old.cursor records.new.cursor result }
 {
     let mut table = Table::new();
-    let mut before = Position { x: 0, y: 0 };
+    let mut before = Position::default();
     while let Some(fields) = records.next_record()? {
         let row = row_of(fields, before);
         table.push(row);

@@ -1,9 +1,9 @@
 use ladder::poses::{Limits, Pose};
 
-// How far each joint may turn in one move.
+// The ladder's limits, by their name in a job.
 pub type StepLimits = Limits;
 
-// One pose of a pose list: the detent counts of the two joints.
+// The ladder's pose, by its name in a pose list.
 pub type Counts = Pose;
 
 // The arm's two link lengths and the half side of the window around a position.
@@ -15,7 +15,7 @@ pub struct Arm {
 }
 
 // Where a waypoint lies on the board.
-#[derive(Clone, Copy, PartialEq, Eq, Debug)]
+#[derive(Clone, Copy, PartialEq, Eq, Debug, Default)]
 pub struct Position {
     pub x: i16,
     pub y: i16,

@@ -43,7 +43,7 @@ mod tests {
         }
     }
 
-    // The number and the place of a refusal, or two zeros, which is how the tests below write that a file is accepted.
+    // The number and the place of a refusal, or two zeros for a file that is accepted: the tests keep the values that they were written with.
     fn outcome(file: &[u8]) -> (u8, usize) {
         read(file)
             .err()
@@ -250,7 +250,7 @@ mod tests {
         Ok(())
     }
 
-    // The kind of a field by a letter, as the test below writes it, with its place and size where it is a part.
+    // The kind of a field by a letter, with its place and size where it is a part: the test keeps the values that it was written with.
     fn sketch(field: Option<Field>) -> (u8, usize, usize) {
         match field {
             Some(Field::X(_)) => (b'x', 0, 0),

@@ -5,7 +5,7 @@ use anyhow::bail;
 use listing::list;
 use std::io::Read;
 
-// Prints the listing of one job, in the three lines that `tracks` has too: no contract could say of a function for both what it prints.
+// Prints the listing of one job, in the three lines that `tracks` has too: a function for both would be public, and no contract could say what it prints.
 fn list_one(rt: &HostRuntime, job: &[u8]) -> anyhow::Result<()> {
     let mut text = [0; 2500];
     let n = list(job, &mut text);

@@ -11,6 +11,7 @@ use Rattle.ladder.specs.Moves.{turns, within}
 use Rattle.ladder.specs.Rules.{Rules, joined}
 use Rattle.ladder.specs.Tracks.{Rung, Ladder, Track, step_at, Admissible, in_range, steps, steps_back, all_within, moves}
 use Rattle.ladder.specs.Plain.{onward, CostIsFold, Picks, AdmissibleIsMoves}
+use Rattle.std.proofs.lemmas.List.Sums.{fold_push}
 
 onward_push : (xs : List Step) (q p : Step) → onward (xs ++ q ∷ p ∷ []) ≡ onward (xs ++ q ∷ []) ++ turns q.pose p.pose ∷ []
 onward_push [] q p = refl
@@ -39,15 +40,11 @@ length_steps rs t h = length-reverse (steps_back rs t) ∙ back rs t h
     back (r ∷ rs) [] h = absurd (false≢true h)
     back (r ∷ rs) (j ∷ t) h = ap suc (back rs t (and_parts _ _ h).1)
 
-folded_push : {X Y : Type 0} (f : Y → X → Y) (a : Y) (xs : List X) (x : X) → fold f a (xs ++ x ∷ []) ≡ f (fold f a xs) x
-folded_push f a [] x = refl
-folded_push f a (y ∷ xs) x = folded_push f (f a y) xs x
-
 module _ {V P : Type 0} (c : Rules V P) where
   joined_folded : (ms : List Turns) → joined c ms ≡ fold (λ v m. c.join v (c.price m)) c.zero (reverse ms)
   joined_folded [] = refl
   joined_folded (m ∷ ms) =
-      ap (λ v. c.join v (c.price m)) (joined_folded ms) ∙ sym (folded_push (λ v n. c.join v (c.price n)) c.zero (reverse ms) m) ∙ ap (fold (λ v n. c.join v (c.price n)) c.zero) (sym (reverse_cons m ms))
+      ap (λ v. c.join v (c.price m)) (joined_folded ms) ∙ sym (fold_push (λ v n. c.join v (c.price n)) c.zero (reverse ms) m) ∙ ap (fold (λ v n. c.join v (c.price n)) c.zero) (sym (reverse_cons m ms))
 
   pub cost_is_fold : CostIsFold c
   cost_is_fold rs t =

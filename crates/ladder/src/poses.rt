@@ -1,5 +1,5 @@
-// Poses of an arm with two joints, and the moves between them. Each type here holds a value for each joint; they are types of their own, and not one
-// with a parameter, so that no turns can stand for limits, and no number of a pose for another number.
+// Poses of an arm with two joints, and the moves between them. `Pose`, `Turns` and `Limits` each hold a value for each joint; they are types of their
+// own, and not one with a parameter, so that no turns can stand for limits.
 ghost use Rattle.std.specs.Prelude.{◌≡◌};
 ghost use Rattle.ladder.specs.Moves.{turns, within};
 

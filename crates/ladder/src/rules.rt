@@ -16,7 +16,7 @@ pub trait Cost: Copy {
 
     ghost LETTER: { ℕ };
 
-    // `LETTER`, where a value is asked for.
+    // `LETTER` as a call. Its name stays for whoever calls it.
     fn letter_byte() -> u8
         ensures { result ≡ rules.letter }
     {

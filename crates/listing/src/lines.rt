@@ -1,7 +1,6 @@
 // The lines of a listing.
-ghost use Rattle.std.specs.Prelude.{◌≡◌, Some, None};
-ghost use Rattle.job.specs.Questions.{number as question_number};
-ghost use Rattle.resolver.specs.Answers.{number as refusal_number};
+ghost use Rattle.std.specs.Prelude.{◌≡◌};
+ghost use Rattle.listing.specs.declared.lines.Ending.TheVariants.{Unread, Refused};
 
 use crate::printing::Printed;
 use crate::text::Text;
@@ -11,32 +10,26 @@ use resolver::{Refusal, Taken};
 
 const NEWLINE: u8 = b'\n';
 
-// Why a listing ends: the number of the question that got a no, and its place in the file where the reader put it.
-#[derive(Clone, Copy)]
-pub(crate) struct Ending {
-    question: u8,
-    place: Option<usize>,
+// Why a listing ends: the file is refused, or a call of the resolver is.
+#[derive(Clone, Copy, PartialEq, Eq, Debug)]
+pub(crate) enum Ending {
+    Unread(Fault),
+    Refused(Refusal),
 }
 
 impl From<Fault> for Ending {
-    ghost from_gives = { λ f e. (e.question ≡ question_number f.question) × (e.place ≡ Some f.place) };
+    ghost from_gives = { λ f e. e ≡ Unread f };
 
     fn from(fault: Fault) -> Ending {
-        Ending {
-            question: fault.question.number(),
-            place: Some(fault.place),
-        }
+        Ending::Unread(fault)
     }
 }
 
 impl From<Refusal> for Ending {
-    ghost from_gives = { λ r e. (e.question ≡ refusal_number r) × (e.place ≡ None) };
+    ghost from_gives = { λ r e. e ≡ Refused r };
 
     fn from(refusal: Refusal) -> Ending {
-        Ending {
-            question: refusal.number(),
-            place: None,
-        }
+        Ending::Refused(refusal)
     }
 }
 
@@ -69,9 +62,12 @@ pub(crate) fn track_line<C: Printed>(text: &mut Text, taken: Taken<C>, steps: &[
 // The last line of a listing.
 pub(crate) fn last_line(text: &mut Text, ending: Ending) {
     text.byte(b'R');
-    spaced(text, ending.question as u64);
-    if let Some(place) = ending.place {
-        spaced(text, place as u64);
+    match ending {
+        Ending::Unread(fault) => {
+            spaced(text, fault.question.number() as u64);
+            spaced(text, fault.place as u64);
+        }
+        Ending::Refused(refusal) => spaced(text, refusal.number() as u64),
     }
     text.byte(NEWLINE);
 }

@@ -1,6 +1,4 @@
 // The listing of a job.
-ghost use Rattle.std.specs.Prelude.{IsErr};
-
 use crate::lines::{Ending, head_line, last_line, track_line};
 use crate::printing::Printed;
 use crate::text::Text;
@@ -10,6 +8,7 @@ use ladder::poses::Step;
 use ladder::rules::Cost;
 use resolver::{LentTables, Refusal, Resolver, Setup};
 use sources::{Armed, Source, Tabled};
+use std::convert::Infallible;
 
 // How many rungs and how many tracks a listing has at most.
 const RUNGS: usize = 8;
@@ -40,9 +39,7 @@ fn list_tracks<C: Printed>(
     resolver: &mut Resolver<C>,
     steps: &mut [Step],
     text: &mut Text,
-) -> Result<(), Refusal>
-    ensures { IsErr result }
-{
+) -> Result<Infallible, Refusal> {
     loop {
         let taken = resolver.next(steps)?;
         track_line(text, taken, steps);
@@ -51,9 +48,10 @@ fn list_tracks<C: Printed>(
 
 // The listing of a resolver whose waypoints are added, up to the refusal that ends it. A resolver and a text go together here and in `list_tracks`
 // alone: a struct of the two would be a type more, with no fact of its own.
-fn list_closed<C: Printed>(resolver: &mut Resolver<C>, text: &mut Text) -> Result<(), Refusal>
-    ensures { IsErr result }
-{
+fn list_closed<C: Printed>(
+    resolver: &mut Resolver<C>,
+    text: &mut Text,
+) -> Result<Infallible, Refusal> {
     let rungs = resolver.close()?;
     head_line::<C>(text, rungs);
     let mut steps = [Step::default(); RUNGS];
@@ -61,9 +59,11 @@ fn list_closed<C: Printed>(resolver: &mut Resolver<C>, text: &mut Text) -> Resul
 }
 
 // The listing of a job file, up to what ends it.
-fn list_file<C: Printed>(file: &[u8], tables: LentTables<C>, text: &mut Text) -> Result<(), Ending>
-    ensures { IsErr result }
-{
+fn list_file<C: Printed>(
+    file: &[u8],
+    tables: LentTables<C>,
+    text: &mut Text,
+) -> Result<Infallible, Ending> {
     let job = job::read(file)?;
     let setup = Setup {
         limits: job.limits(),
@@ -83,9 +83,8 @@ fn list_file<C: Printed>(file: &[u8], tables: LentTables<C>, text: &mut Text) ->
 // into `out` is left out.
 pub fn write_listing<C: Printed>(file: &[u8], tables: LentTables<C>, out: &mut [u8]) -> usize {
     let mut text = Text::over(out);
-    if let Err(ending) = list_file(file, tables, &mut text) {
-        last_line(&mut text, ending);
-    }
+    let Err(ending) = list_file(file, tables, &mut text);
+    last_line(&mut text, ending);
     text.len()
 }
 

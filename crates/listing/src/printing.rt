@@ -12,8 +12,7 @@ pub trait Printed: Cost {
 
     // Writes the text of the cost.
     fn print(self, text: &mut Text)
-        ensures lender { text.new.out.ghost_name ≡ text.old.out.ghost_name }
-        ensures wrote { Wrote (shown self) text.old.out.now text.old.len text.new.out.now text.new.len };
+        ensures { Wrote (shown self) text.old text.new };
 }
 
 impl Printed for Travel {

@@ -1,6 +1,5 @@
 // Text written into a lent slice of bytes.
 ghost use Rattle.std.specs.Prelude.{◌≡◌, ℕ, ◌+◌, ◌^◌, ◌<◌, List, [], ◌∷◌, length, decimal};
-ghost use Rattle.listing.specs.Text.{Wrote};
 
 // A text: the bytes that fit are written, and all are counted. It lies in places that are lent, since nothing here allocates, and the count is not
 // their length. It has no `fmt::Write`: what `write!` promises of the text holds only where it answers Ok, and no contract says when it does, while
@@ -12,6 +11,8 @@ pub struct Text<'a> {
 }
 
 impl<'a> Text<'a> {
+    ghost use Rattle.listing.specs.Text.{Wrote};
+
     // An empty text, to be written from the first place of `out` on.
     pub fn over(out: &'a mut [u8]) -> Text<'a>
         ensures { (result.len ≡ 0) × (result.out.now ≡ out.old) × (result.out.ghost_name ≡ out.entry.ghost_name) }
@@ -28,8 +29,7 @@ impl<'a> Text<'a> {
 
     // One byte.
     pub fn byte(&mut self, b: u8)
-        ensures lender { self.new.out.ghost_name ≡ self.old.out.ghost_name }
-        ensures wrote { Wrote (b ∷ []) self.old.out.now self.old.len self.new.out.now self.new.len }
+        ensures { Wrote (b ∷ []) self.old self.new }
     {
         let at = self.len;
         // by index: nothing is known of a slice's elements after `get_mut`
@@ -41,8 +41,7 @@ impl<'a> Text<'a> {
 
     // A number in decimal digits.
     pub fn number(&mut self, n: u64)
-        ensures lender { self.new.out.ghost_name ≡ self.old.out.ghost_name }
-        ensures wrote { Wrote (decimal n) self.old.out.now self.old.len self.new.out.now self.new.len }
+        ensures { Wrote (decimal n) self.old self.new }
     {
         if n >= 10 {
             self.number(n / 10);

@@ -5,7 +5,8 @@ ghost use Rattle.resolver.specs.Answers.{count_answer};
 
 use resolver::{Refusal, Taken};
 
-// A call. Sources and filters go by their numbers, and a call for a track brings an output of its own with so many places.
+// A call. It is plain data, as the promise of a run speaks of it, so sources and filters go by their numbers; a call for a track brings an output of its
+// own with so many places.
 #[derive(Clone, Copy, PartialEq, Eq, Debug)]
 pub enum Call {
     Add { source: usize, waypoint: u16 },

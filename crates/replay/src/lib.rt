@@ -38,9 +38,7 @@ mod tests {
 
     // Adds the three rungs, closes, and seeks with an envelope of shoulder 0 to `high`; answers what seeking answered.
     fn sought(ration: usize, high: i16, outputs: &mut [Step; 4]) -> Option<Answer<Travel>> {
-        let Ok(envelope) = Envelope::new(Span { low: 0, high }, Span { low: 0, high: 0 }) else {
-            return None;
-        };
+        let envelope = Envelope::new(Span { low: 0, high }, Span { low: 0, high: 0 }).ok()?;
         let mut stations = [Station::blank(); 48];
         let mut ranked = [Ranked::blank(Travel::zero()); 64];
         let mut candidates = [Candidate::blank(Travel::zero()); 768];
@@ -84,7 +82,7 @@ mod tests {
             &mut answers,
             outputs,
         );
-        if made == 5 { Some(answers[4]) } else { None }
+        (made == 5).then(|| answers[4])
     }
 
     // An envelope that passes neither track: with places left in the ration the list ends, and else the ration.

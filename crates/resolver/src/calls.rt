@@ -29,7 +29,8 @@ fn copy_poses<S: Source>(source: &mut S, waypoint: u16, into: &mut [Pose])
 }
 
 impl<'t, C: Cost> Core<'t, C> {
-    // Appends the rung of the source's list at a waypoint, which `poses` has just the places for.
+    // Appends the rung of the source's list at a waypoint, which `poses` has just the places for. The source and the waypoint are the call's own
+    // arguments, passed on; that a rung is short is a fact about an argument.
     fn append_from<S: Source>(&mut self, source: &mut S, waypoint: u16, poses: &mut [Pose]) -> usize
         requires rung { self.old.rungs < self.old.rung_limit }
         requires few { length poses.old ≤ 16 }
@@ -64,6 +65,7 @@ impl<'t, C: Cost> Resolver<'t, C> {
         if n > 16 {
             return Err(Refusal::TooManyPoses);
         }
+        // the first n of an array: nothing is allocated
         let mut poses = [Pose::default(); 16];
         Ok(self.core.append_from(source, waypoint, &mut poses[0..n]))
     }

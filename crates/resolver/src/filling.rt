@@ -16,7 +16,7 @@ impl<'t, C: Cost> Core<'t, C> {
         ensures same { Same self.old self.new }
         ensures effect { PlacesRung C.Cost.rules self.old self.new r poses.now }
     {
-        // by its place in the table: a walk over a part of the table beside the poses leaves open what its places hold then
+        // by its place in the table: tried with `zip` over that part, and the proof of what its places hold then did not close
         for (j, p) in poses.iter().enumerate() {
             self.stations[16 * r + j] = Station {
                 pose: *p,
@@ -67,6 +67,7 @@ impl<'t, C: Cost> Core<'t, C> {
             self.draw(r, v);
             return;
         }
+        // a track of the first rung extends none: its back-pointer and place play no part, and an `Option` would be opened on every other rung
         let back = Back {
             pose: v,
             rank: Rank(0),

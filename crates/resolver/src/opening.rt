@@ -22,7 +22,7 @@ pub struct Setup {
     pub ration: usize,
 }
 
-// The three tables that a resolver is lent.
+// The three tables that a resolver is lent, flat: a host lends plain slices.
 #[derive(Drop)]
 pub struct LentTables<'t, C> {
     pub stations: &'t mut [Station],
@@ -41,7 +41,7 @@ pub fn sizes(
 ) -> Result<(), Refusal>
     ensures { size_answer {V = ℕ} result ≡ sizing rung_limit ration stations ranked candidates }
 {
-    if rung_limit < 1 || rung_limit > 128 || ration < 1 || ration > 4096 {
+    if !(1..=128).contains(&rung_limit) || !(1..=4096).contains(&ration) {
         return Err(Refusal::OutOfRange);
     }
     if stations < 16 * rung_limit
@@ -89,10 +89,7 @@ impl<'t, C: Cost> Resolver<'t, C> {
             stations: tables.stations,
             ranked: tables.ranked,
             candidates: tables.candidates,
-            extents: [Extent {
-                poses: 0,
-                ranked: 0,
-            }; 128],
+            extents: [Extent::default(); 128],
             limits: setup.limits,
             rung_limit: setup.rung_limit,
             ration: setup.ration,

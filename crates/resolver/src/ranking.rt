@@ -44,10 +44,9 @@ impl<'t, C: Cost> Core<'t, C> {
         ensures same { Same self.old self.new }
         ensures effect { EntersTrack C.Cost.rules self.old self.new r v.0 at.0 }
     {
-        let Some(x) = self.candidate(r, v, at) else {
-            return;
-        };
-        self.wait(r, v, x);
+        if let Some(x) = self.candidate(r, v, at) {
+            self.wait(r, v, x);
+        }
     }
 
     // Links the last found rank at a pose of rung r, whose station is s, to the place of the next.
@@ -206,7 +205,7 @@ impl<'t, C: Cost> Core<'t, C> {
         ensures same { Same self.old self.new }
         ensures effect { FindsNext C.Cost.rules self.old self.new r v.0 }
     {
-        // a place for each rung there may be, since the library allocates nothing
+        // a place for each rung there may be: it is filled from rung r down, and the library allocates nothing
         let mut path = [v; 128];
         let low = self.descend(r, v, &mut path);
         // i is a rung, which the call needs beside the pose that `path` has for it

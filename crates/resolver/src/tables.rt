@@ -13,7 +13,7 @@ pub struct Core<'t, C> {
     pub stations: &'t mut [Station],
     pub ranked: &'t mut [Ranked<C>],
     pub candidates: &'t mut [Candidate<C>],
-    // of a fixed length with `rungs` beside it, since the library allocates nothing
+    // the rung that is being added has its extent already, and `rungs` does not count it yet, so no vector of `rungs` extents holds them
     pub extents: [Extent; 128],
     pub limits: Limits,
     pub rung_limit: usize,
@@ -50,8 +50,9 @@ fn place_in(width: usize, r: usize, i: usize) -> usize
 
 // The numbers that the tables hold are brought into range before they are used as places: what a table holds is known between calls alone, by the
 // resolver's invariant, and these run within a call. So no access leaves its table whatever they are. A rung and a pose number stay two parameters:
-// nearly half of the calls join a rung with another pose number than they were given, and a contract would have to name both fields each time. That a
-// rung is below the limit is a fact about an argument, and what a step keeps is one about two moments: they are clauses, since no type can hold them.
+// a third of the calls join a rung with another pose number than they were given, and a contract would have to name both fields each time. That a rung
+// is below the limit, or has one before it, is a fact about an argument, and what a step keeps is one about two moments: they are clauses, since a type that
+// held the tables beside the argument would be no plainer. A pose number may be any byte, as the type is public, so what is read of it asks for less than 16.
 impl<'t, C: Cost> Core<'t, C> {
     ghost use Rattle.resolver.specs.Kept.{Same};
     ghost use Rattle.resolver.specs.Effects.{PutsStation, PutsTrack};
@@ -101,7 +102,8 @@ impl<'t, C: Cost> Core<'t, C> {
         self.stations[self.station_place(r, v)] = s;
     }
 
-    // Writes the track at a place of rung r's ranked block. Another call than `put_station`, as it writes another table and speaks of it.
+    // Writes the track at a place of rung r's ranked block. One call for both tables would take the table, its width and
+    // its definition beside, and be no plainer; so it is with reading.
     pub(crate) fn put_track(&mut self, r: usize, at: Place, e: Ranked<C>)
         requires { r < self.old.rung_limit }
         ensures same { Same self.old self.new }

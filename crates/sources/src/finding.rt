@@ -1,8 +1,7 @@
 // How an arm's source finds its poses.
 ghost use Rattle.std.specs.Prelude.{◌≡◌};
-ghost use Rattle.std.specs.Option.{option_map};
-ghost use Rattle.job.specs.Jobs.{view};
-ghost use Rattle.sources.specs.Files.{armed, armed_in, reached_by, OffersFor};
+ghost use Rattle.sources.specs.Files.{armed, reached_by, OffersFor};
+ghost use Rattle.sources.specs.Meant.{meant};
 ghost use Rattle.sources.specs.Pages.{Shows, Covers};
 
 use crate::arms::{Armed, Memory};
@@ -15,8 +14,8 @@ use ladder::poses::Pose;
 impl<'a> Armed<'a> {
     // The source of a job file, which may be any bytes. The file is read here, and not again.
     pub fn new(file: &'a [u8]) -> Armed<'a>
-        ensures means { armed_in (option_map view result.job) ≡ armed file.now }
-        ensures offers { OffersFor file.now (armed_in (option_map view result.job)) }
+        ensures means { meant result ≡ armed file.now }
+        ensures offers { OffersFor file.now (meant result) }
     {
         Armed {
             job: opened(file),
@@ -26,7 +25,7 @@ impl<'a> Armed<'a> {
 
     // What the job's arm is to reach for a waypoint; None without an arm or a position.
     fn target(&self, waypoint: u16) -> Option<Target>
-        ensures { reached_by result ≡ armed_in (option_map view self.now.job) waypoint }
+        ensures { reached_by result ≡ meant self.now waypoint }
     {
         let job = self.job.as_ref()?;
         Some(Target {
@@ -37,7 +36,7 @@ impl<'a> Armed<'a> {
 
     // The page of a waypoint, with the numbers from `from` on.
     fn find(&self, waypoint: u16, from: usize) -> Page
-        ensures shows { Shows result (armed_in (option_map view self.now.job) waypoint) }
+        ensures shows { Shows result (meant self.now waypoint) }
         ensures from { result.from ≡ from }
     {
         self.target(waypoint)
@@ -46,7 +45,7 @@ impl<'a> Armed<'a> {
 
     // The page of a waypoint that covers a number: the one that is remembered if it does.
     fn recall(&mut self, waypoint: u16, number: usize) -> Page
-        ensures shows { Shows result (armed_in (option_map view self.old.job) waypoint) }
+        ensures shows { Shows result (meant self.old waypoint) }
         ensures covers { Covers result number }
         ensures same { self.new.job ≡ self.old.job }
     {
@@ -63,7 +62,7 @@ impl<'a> Armed<'a> {
 }
 
 impl<'a> Source for Armed<'a> {
-    ghost meaning = { λ s. armed_in (option_map view s.job) };
+    ghost meaning = { meant };
 
     fn count(&mut self, waypoint: u16) -> usize {
         self.recall(waypoint, 0).count()
