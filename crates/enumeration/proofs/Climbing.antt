@@ -121,13 +121,6 @@ module _ {C P : Type 0} (c : Rules C P) (laws : Lawful c) (l : Limits) (b : Boun
   cases_of true f g = f refl
   cases_of false f g = g refl
 
-  -- nothing is needed: the pending successor is found
-  pub none_needed : (t : Tables C) (r v : ℕ) → needed_at t r v ≡ None → (t.station r v).pending ≡ true → Ready c l t r v
-  none_needed t zero v e pending = tt
-  none_needed t (suc p) v e pending = cases_of (successor_found t p v)
-      (λ f. inl (ltb-true _ _ f))
-      (λ f. absurd (let z : ◌≡◌ {A = Option PoseNumber} (Some (last_back t (suc p) v).pose) None = sym (ap (λ x. cond x (cond (successor_found t p v) None (Some (last_back t (suc p) v).pose)) None) pending ∙ ap (λ x. cond x None (Some (last_back t (suc p) v).pose)) f) ∙ e in let y : ◌≡◌ {A = ℕ} 0 1 = cc in let no_way : ⊥ = omega arith in no_way))
-
   -- a pose is needed: the pending successor extends its next track
   pub record Wants (t : Tables C) (p v u : ℕ) : Type 0 where
     pub pending : (t.station (suc p) v).pending ≡ true
@@ -168,19 +161,6 @@ module _ {C P : Type 0} (c : Rules C P) (laws : Lawful c) (l : Limits) (b : Boun
     pub done : i ≡ suc r → LookedFor c l t₀ t r (path r)
 
   module _ (adv : Advances c) (t₀ : Tables C) (sound₀ : RungsSound c l t₀ n) (free : (q : ℕ) → q < n → t₀.used q < w) (path : ℕ → ℕ) (low r : ℕ) (hr : r < n) (inside : (j : ℕ) → low ≤ j → j ≤ r → path j < t₀.size j) (chain : (j : ℕ) → low ≤ j → j < r → Wants t₀ j (path (suc j)) (path j)) where
-    pub climb_begins : low ≤ r → ((t₀.station low (path low)).pending ≡ true → Ready c l t₀ low (path low)) → Climb t₀ t₀ path r low
-    climb_begins le ready = record {
-      sound = sound₀;
-      same = record { sizes = λ q h. refl; each = λ q u h i. refl };
-      stations = λ q u h i. refl;
-      tracks = λ q k h i. refl;
-      used_on = λ q h. refl;
-      used = λ q h. omega arith;
-      found = λ q u h i. omega arith;
-      ready = λ _. ready;
-      done = λ e. absurd (let no_way : ⊥ = omega (arith, le, e) in no_way);
-    }
-
     module _ (t : Tables C) (i : ℕ) (lo : low ≤ i) (hi : i ≤ r) (h : Climb t₀ t path r i) where
       pub room : (q : ℕ) → q < n → t.used q ≤ w
       room q x = omega (arith, h.used q x, free q x)
