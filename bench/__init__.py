@@ -1,0 +1,1 @@
+"""Measurements of the resolver; nothing here is part of the gate."""
