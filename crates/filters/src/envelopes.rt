@@ -28,7 +28,7 @@ pub enum Refusal {
 }
 
 impl Refusal {
-    // The number by which a refusal is reported.
+    // The number by which a refusal is reported. Each crate numbers its own; a trait for one cast would be no plainer.
     pub fn number(self) -> u8
         ensures { result ≡ refusal_number self }
     {

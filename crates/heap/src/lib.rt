@@ -59,7 +59,7 @@ fn sift_up<T: Ordered>(slots: &mut [T])
     }
 }
 
-// Brings the first record down to its place, from parent to child.
+// Brings the first record down to its place, from parent to child, by doubling.
 fn sift_down<T: Ordered>(slots: &mut [T])
     ensures same { IsPermutation slots.old slots.new }
     ensures sinks { OrderOn T.valid T.before → Valid T.valid slots.old (length slots.old) → Heaped T.before slots.old 1 (length slots.old) → Stands T.valid T.before slots.new (length slots.old) }

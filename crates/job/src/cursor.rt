@@ -11,7 +11,7 @@ pub struct Cursor<'a> {
     ghost bytes: { (i : ℕ) → slice_index file.now i < 256 },
 }
 
-// Some bytes of a file, with the place of the first.
+// Some bytes of a file, with the place of the first. A part has no file beside it, so that it lies in one is a clause.
 #[derive(Clone, Copy)]
 pub struct Part<'a> {
     pub place: usize,

@@ -19,7 +19,7 @@ const RATION: u8 = 4;
 const UNNAMED: u8 = 248;
 
 // What a file says before its records; a value that is not written is None.
-#[derive(Clone, Copy)]
+#[derive(Clone, Copy, PartialEq, Eq, Debug)]
 pub struct Header {
     pub limits: Option<Limits>,
     pub arm: Option<Arm>,

@@ -104,7 +104,7 @@ impl<'a> Records<'a> {
 }
 
 impl<'a> Record<'a> {
-    // Hands out the record's fields one by one, in bit order. Not by `map(Field::X)`: the check takes no function whose result names a lifetime that its
+    // Hands out the record's fields one by one, in bit order. Tried by `map(Field::X)` and `or_else`: the check takes no function whose result names a lifetime that its
     // argument does not.
     pub fn next_field(&mut self) -> Option<Field<'a>>
         ensures field { option_map field_v result ≡ first_of (unhanded self.old) }

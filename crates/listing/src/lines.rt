@@ -1,4 +1,4 @@
-// The lines of a listing.
+// The lines of a listing, by the calls of `Text` and not by `write!`: what that promises, `Text` says.
 ghost use Rattle.std.specs.Prelude.{◌≡◌};
 ghost use Rattle.listing.specs.declared.lines.Ending.TheVariants.{Unread, Refused};
 

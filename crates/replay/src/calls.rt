@@ -28,7 +28,7 @@ impl Call {
 }
 
 // What a call that was not refused answers: the rung count, or a track.
-#[derive(Clone, Copy)]
+#[derive(Clone, Copy, PartialEq, Eq, Debug)]
 pub enum Reply<C> {
     Counted(usize),
     Given(Taken<C>),

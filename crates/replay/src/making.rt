@@ -23,7 +23,7 @@ pub(crate) fn make<C: Cost, S: Source, F: Filter>(
     ensures made { Made (map S.Source.meaning sources.old) (map F.Filter.passes filters.old) C.Cost.rules
         call resolver.old.core outputs.old result outputs.new resolver.new.core }
 {
-    // sources and filters by index: nothing is known of a slice's elements after `get_mut`
+    // by the kind of a call, as calls are data; sources and filters by index: nothing is known of a slice's elements after `get_mut`
     if call.places() > outputs.len() {
         return None;
     }

@@ -28,7 +28,7 @@ pub enum Refusal {
 }
 
 impl Refusal {
-    // The number of the question.
+    // The number of the question. Each crate numbers its own; a trait for one cast would be no plainer.
     pub fn number(self) -> u8
         ensures { result ≡ number self }
     {

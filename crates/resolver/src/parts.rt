@@ -1,5 +1,5 @@
-// A heap that lies in a part of a table. A function of its own makes it over that part: where it is made and let go beside the table, a proof
-// knows how long the part is afterwards, and not what it holds.
+// A heap that lies in a part of a table. A function of its own makes it over that part. Tried in one: where the heap is made and let go beside the
+// table, a proof knows how long the part is afterwards, and not what it holds.
 ghost use Rattle.std.specs.Prelude.{◌≡◌, ◌+◌, ◌-◌, ◌*◌, ◌<◌, ◌≤◌, length, take, drop, MatchOption};
 ghost use Rattle.heap.specs.Order.{Pushed, Popped};
 ghost use Rattle.resolver.specs.Tables.{part};

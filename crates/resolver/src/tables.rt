@@ -50,7 +50,7 @@ fn place_in(width: usize, r: usize, i: usize) -> usize
 
 // The numbers that the tables hold are brought into range before they are used as places: what a table holds is known between calls alone, by the
 // resolver's invariant, and these run within a call. So no access leaves its table whatever they are. A rung and a pose number stay two parameters:
-// a third of the calls join a rung with another pose number than they were given, and a contract would have to name both fields each time. That a rung
+// about a quarter of the calls join a rung with another pose number than they were given, and a contract would have to name both fields each time. That a rung
 // is below the limit, or has one before it, is a fact about an argument, and what a step keeps is one about two moments: they are clauses, since a type that
 // held the tables beside the argument would be no plainer. A pose number may be any byte, as the type is public, so what is read of it asks for less than 16.
 impl<'t, C: Cost> Core<'t, C> {
