@@ -1,0 +1,32 @@
+// Reads scripts of calls from standard input, makes the calls of each on a new resolver, and prints what they answer and write.
+#![tactic(auto)]
+
+mod kinds;
+mod parsing;
+mod running;
+
+use anyhow::bail;
+use parsing::Script;
+use running::run_script;
+use std::io::Read;
+
+fn run(rt: &HostRuntime) -> anyhow::Result<()> {
+    let alloc = rt.alloc();
+    let mut input = Vec::new(alloc);
+    rt.stdin().read_to_end(&mut input)?;
+    let Ok(text) = std::str::from_utf8(input.as_slice()) else {
+        bail!("the script is no text");
+    };
+    let mut script = Script::new(alloc);
+    for line in text.lines() {
+        if script.read_line(alloc, line)? {
+            run_script(rt, alloc, &mut script)?;
+            script = Script::new(alloc);
+        }
+    }
+    Ok(())
+}
+
+fn main(rt: HostRuntime) -> anyhow::Result<()> {
+    run(&rt)
+}
