@@ -12,7 +12,9 @@ from brute.filters import Step, envelope, reversals, turn_count
 from brute.generate import WORKED_JOB, WORKED_RUNGS
 from brute.ladder import Limits, Pose, TooManyRows, list_of_ladder
 from brute.listing import listing
+from brute.make_scripts import worked_script
 from brute.reader import Fault, Job, read_job
+from brute.scripts import KINDS, answers, generate, read_scripts, script_text
 from brute.sources import arm_poses, tabled_poses
 from brute.writer import Parts, job_bytes, ladder_bytes
 
@@ -317,6 +319,40 @@ class Filters(unittest.TestCase):
         self.assertEqual(reversals([4, 4]), 0)
         self.assertEqual(reversals([0, 1, 1, 1, 2]), 0)
         self.assertEqual(reversals([0, 1, 1, 0, 0, 1]), 2)
+
+
+class Scripts(unittest.TestCase):
+    """Scripts of calls: two by hand, and their text."""
+
+    def test_worked_scripts(self) -> None:
+        counted = b"counted 1\ncounted 2\ncounted 3\ncounted 3\n"
+        output = b" : 0 0 0 : 0 4 0 : 0 14 0 : 7 99 -99\nend\n"
+        self.assertEqual(answers(worked_script(3)), counted + b"refused 10" + output)
+        self.assertEqual(answers(worked_script(2)), counted + b"refused 9" + output)
+
+    def test_text_of_a_worked_script(self) -> None:
+        expected = [
+            "open T 65535 65535 3 3 48 57 768",
+            "job " + WORKED_JOB.hex(),
+            "envelope 0 13 0 0",
+            "add tabled 0",
+            "add tabled 1",
+            "add tabled 2",
+            "close",
+            "seek 0 4",
+            "end",
+        ]
+        self.assertEqual(script_text(worked_script(3)).decode("ascii").split("\n"), expected + [""])
+
+    def test_text_goes_round(self) -> None:
+        scripts = [worked_script(3), *map(generate, range(2 * len(KINDS)))]
+        text = b"".join(map(script_text, scripts))
+        self.assertEqual(read_scripts(text), scripts)
+
+    def test_each_call_has_a_line(self) -> None:
+        for seed in range(len(KINDS)):
+            script = generate(seed)
+            self.assertEqual(answers(script).count(b"\n"), len(script.calls) + 1)
 
 
 if __name__ == "__main__":
