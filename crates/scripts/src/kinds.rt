@@ -23,7 +23,7 @@ pub struct Offers<'a> {
 
 impl<'a> Offers<'a> {
     // A source of a file, which may be any bytes.
-    pub fn new(kind: Kind, file: &'a [u8]) -> Offers<'a>
+    pub(crate) fn new(kind: Kind, file: &'a [u8]) -> Offers<'a>
         ensures { result.kind ≡ kind }
     {
         Offers {

@@ -45,7 +45,7 @@ fn push_hex(job: &mut Vec<u8>, word: &str) -> anyhow::Result<()> {
 
 impl Script {
     // A script of which nothing is read.
-    pub fn new(alloc: Global) -> Script {
+    pub(crate) fn new(alloc: Global) -> Script {
         Script {
             letter: b'T',
             setup: Setup {
@@ -66,7 +66,7 @@ impl Script {
     }
 
     // Takes up a line; answers whether it is the last of the script.
-    pub fn read_line(&mut self, alloc: Global, line: &str) -> anyhow::Result<bool> {
+    pub(crate) fn read_line(&mut self, alloc: Global, line: &str) -> anyhow::Result<bool> {
         let mut words = Vec::new(alloc);
         for word in line.split(' ') {
             words.push(word)?;

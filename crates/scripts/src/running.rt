@@ -105,7 +105,11 @@ fn run_under<C: Told>(rt: &impl Print, alloc: Global, script: &mut Script) -> an
 }
 
 // Makes the calls of a script under the cost of its letter.
-pub fn run_script(rt: &impl Print, alloc: Global, script: &mut Script) -> anyhow::Result<()> {
+pub(crate) fn run_script(
+    rt: &impl Print,
+    alloc: Global,
+    script: &mut Script,
+) -> anyhow::Result<()> {
     match script.letter {
         b'T' => run_under::<Travel>(rt, alloc, script),
         b'W' => run_under::<Worst>(rt, alloc, script),
