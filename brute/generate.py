@@ -127,18 +127,22 @@ def small_arm_jobs(dice: Dice) -> Iterator[bytes]:
     yield job_bytes([Parts(x=100, y=100), Parts(x=0, y=0), Parts(x=201)], arm=SMALL_ARM)
 
 
+# Arms with positions that 15, 16, 17 and 18 poses reach, two of each.
+FULL_ARMS = (
+    (Arm(13, 13, 1), -24, -8),
+    (Arm(12, 20, 1), 4, -7),
+    (Arm(14, 10, 1), 0, 7),
+    (Arm(20, 12, 1), -8, 3),
+    (Arm(12, 10, 1), 0, -21),
+    (Arm(10, 19, 1), 8, 6),
+    (Arm(19, 14, 1), -3, -5),
+    (Arm(1515, 1182, 68), 358, -13),
+)
+
+
 def full_arm_rungs(dice: Dice) -> Iterator[bytes]:
     """Positions that 15, 16, 17 and 18 poses reach, two of each."""
-    for arm, x, y in (
-        (Arm(13, 13, 1), -24, -8),
-        (Arm(12, 20, 1), 4, -7),
-        (Arm(14, 10, 1), 0, 7),
-        (Arm(20, 12, 1), -8, 3),
-        (Arm(12, 10, 1), 0, -21),
-        (Arm(10, 19, 1), 8, 6),
-        (Arm(19, 14, 1), -3, -5),
-        (Arm(1515, 1182, 68), 358, -13),
-    ):
+    for arm, x, y in FULL_ARMS:
         yield job_bytes([Parts(x=x, y=y)], arm=arm)
 
 

@@ -43,6 +43,16 @@ def is_same(path: Path, made: bytes) -> bool:
     return False
 
 
+def settle(crate: Path, files: dict[str, bytes], check: bool) -> bool:
+    """Writes the stored files, or compares them: whether there is no difference."""
+    if check:
+        return all([is_same(crate / name, made) for name, made in files.items()])
+    crate.mkdir(parents=True, exist_ok=True)
+    for name, made in files.items():
+        (crate / name).write_bytes(made)
+    return True
+
+
 def main() -> int:
     """The exit status: 1 if the check finds any difference."""
     parser = argparse.ArgumentParser(description="the stored comparison of a program crate")
@@ -51,13 +61,8 @@ def main() -> int:
     options = parser.parse_args()
     jobs = fixture_jobs()
     files = {"stdin": packed(jobs), "stdout": b"".join(listing(job) for job in jobs)}
-    if options.check:
-        same = [is_same(options.crate / name, made) for name, made in files.items()]
-        if not all(same):
-            return 1
-    else:
-        for name, made in files.items():
-            (options.crate / name).write_bytes(made)
+    if not settle(options.crate, files, options.check):
+        return 1
     print(f"{len(jobs)} jobs, {len(files['stdin'])} bytes in, {len(files['stdout'])} bytes out")
     return 0
 

@@ -13,7 +13,7 @@ from pathlib import Path
 
 from brute.generate import WORKED_JOB
 from brute.ladder import Pose
-from brute.make_fixture import is_same
+from brute.make_fixture import settle
 from brute.scripts import (
     KINDS,
     NO_LIMITS,
@@ -70,14 +70,8 @@ def main() -> int:
         "stdin": b"".join(script_text(script) for script in scripts),
         "stdout": b"".join(answers(script) for script in scripts),
     }
-    if options.check:
-        same = [is_same(options.crate / name, made) for name, made in files.items()]
-        if not all(same):
-            return 1
-    else:
-        options.crate.mkdir(parents=True, exist_ok=True)
-        for name, made in files.items():
-            (options.crate / name).write_bytes(made)
+    if not settle(options.crate, files, options.check):
+        return 1
     print(
         f"{len(scripts)} scripts, {len(files['stdin'])} bytes in, {len(files['stdout'])} bytes out"
     )

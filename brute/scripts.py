@@ -25,6 +25,7 @@ from brute.book import Book, Refused, Taken
 from brute.costs import Cost, Pair, Travel, WorstStep
 from brute.dice import Dice
 from brute.filters import Filter, Step, envelope, reversals, turn_count
+from brute.generate import FULL_ARMS
 from brute.kinds import HIGHEST_COUNT, LOWEST_COUNT, Rungs
 from brute.ladder import Limits, Pose, Track, list_of_ladder
 from brute.reader import Fault, Job, read_job
@@ -44,17 +45,6 @@ LARGEST_GIVEN_RUNG_LIMIT = 6
 MOST_TAKES = 14
 # Of an arm with two links of 100; all its shoulders reach (0, 0).
 SMALL_ARM_POSITIONS = ((100, 100), (-100, 100), (0, 0), (0, 0), (200, 0), (0, -200), (201, 0))
-# Arms with positions that 15, 16, 17 and 18 poses reach.
-FULL_ARMS = (
-    (Arm(13, 13, 1), -24, -8),
-    (Arm(12, 20, 1), 4, -7),
-    (Arm(14, 10, 1), 0, 7),
-    (Arm(20, 12, 1), -8, 3),
-    (Arm(12, 10, 1), 0, -21),
-    (Arm(10, 19, 1), 8, 6),
-    (Arm(19, 14, 1), -3, -5),
-    (Arm(1515, 1182, 68), 358, -13),
-)
 
 
 @dataclass(frozen=True)
