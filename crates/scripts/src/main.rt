@@ -18,11 +18,16 @@ fn run(rt: &HostRuntime) -> anyhow::Result<()> {
         bail!("the script is no text");
     };
     let mut script = Script::new(alloc);
+    let mut ended = true;
     for line in text.lines() {
-        if script.read_line(alloc, line)? {
+        ended = script.read_line(alloc, line)?;
+        if ended {
             run_script(rt, alloc, &mut script)?;
             script = Script::new(alloc);
         }
+    }
+    if !ended {
+        bail!("the last script has no end");
     }
     Ok(())
 }
