@@ -64,10 +64,17 @@ impl Envelope {
     }
 }
 
+// Whether the poses of all steps lie within an envelope.
+fn all_within(envelope: &Envelope, steps: &[Step]) -> bool
+    ensures { result ≡ keeps_within envelope.now.shoulder envelope.now.elbow steps.now }
+{
+    steps.iter().all(|step| envelope.holds(step.pose))
+}
+
 impl Filter for Envelope {
     ghost passes = { λ e. keeps_within e.shoulder e.elbow };
 
     fn judge(&mut self, steps: &[Step]) -> bool {
-        steps.iter().all(|step| self.holds(step.pose))
+        all_within(self, steps)
     }
 }

@@ -1,14 +1,15 @@
 -- What the rows of a job's table stand for.
-use Rattle.std.specs.Prelude.{List, take}
+use Rattle.std.specs.Prelude.{List, [], take}
+use Rattle.std.specs.Option.{unwrap_or, option_map}
 use Rattle.job.specs.declared.rows.Row.{Row}
 use Rattle.job.specs.declared.rows.Table.{Table}
 use Rattle.job.specs.Bytes.{poses_of_bytes}
 use Rattle.job.specs.Resolved.{Waypoint}
 use Rattle.job.specs.Views.{Handed, an_x, a_y, a_list, a_note}
 
--- The waypoint of a row.
+-- The waypoint of a row, whose pose list is empty where none is written.
 abbrev pub row_v : Row → Waypoint
-row_v r = record { position = r.position; poses = poses_of_bytes r.poses.now }
+row_v r = record { position = r.position; poses = unwrap_or (option_map (λ b. poses_of_bytes b.now) r.poses) [] }
 
 -- The rows of a table that are in use.
 abbrev pub in_use : Table → List Row

@@ -11,10 +11,11 @@ use ladder::poses::{Limits, Pose};
 // A job that was read: its values, and its pose lists where they lie in the file.
 #[derive(Clone, Copy)]
 pub struct Job<'a> {
+    // first, so that a job is moved as one piece
+    pub(crate) table: Table<'a>,
     pub(crate) limits: Limits,
     pub(crate) arm: Option<Arm>,
     pub(crate) ration: u16,
-    pub(crate) table: Table<'a>,
 }
 
 impl<'a> Job<'a> {
@@ -57,7 +58,7 @@ impl<'a> Job<'a> {
     fn list(&self, w: u16) -> &'a [u8]
         ensures { poses_of_bytes result.now ≡ poses_in (view self.now) w }
     {
-        self.table.get(w).map_or(&[], |row| row.poses)
+        self.table.get(w).and_then(|row| row.poses).unwrap_or(&[])
     }
 
     // How many poses waypoint w has.

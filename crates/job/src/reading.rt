@@ -9,6 +9,7 @@ ghost use Rattle.job.specs.Outcomes.{Outcome};
 use crate::faults::{Fault, Question};
 use crate::header::open;
 use crate::jobs::Job;
+use crate::rows::Table;
 use crate::table::read_rows;
 use ladder::poses::Limits;
 
@@ -23,7 +24,8 @@ fn scan<'a>(file: &'a [u8]) -> Result<Job<'a>, Fault>
         elbow: u16::MAX,
     });
     let ration = header.ration.unwrap_or(4096);
-    let table = read_rows(&mut records)?;
+    let mut table = Table::new();
+    read_rows(&mut records, &mut table)?;
     if records.cursor.at != file.len() {
         return Err(records.cursor.fault(Question::End));
     }

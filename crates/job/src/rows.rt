@@ -2,19 +2,20 @@ ghost use Rattle.std.specs.Prelude.{◌≡◌, ◌≤◌, length};
 
 use crate::values::Position;
 
-// A waypoint of a job: its position, and the bytes of its pose list where they lie in the file.
+// A waypoint of a job: its position, and the bytes of its pose list where they lie in the file, if one is written. Without a list it is all zeros, so an
+// empty table is made at one stroke.
 #[derive(Clone, Copy)]
 pub(crate) struct Row<'a> {
     pub(crate) position: Position,
-    pub(crate) poses: &'a [u8],
+    pub(crate) poses: Option<&'a [u8]>,
 }
 
 // The waypoints of a job in order, at most 128. The reader allocates nothing, so they lie in fixed places with a length beside; the kit's
 // ArrayVec would hold them too, but cannot be copied, and a job can.
 #[derive(Clone, Copy)]
 pub(crate) struct Table<'a> {
-    len: u16,
     rows: [Row<'a>; 128],
+    len: u16,
     ghost size: { length rows ≡ 128 },
     ghost fits: { len ≤ 128 },
 }
@@ -29,7 +30,7 @@ impl<'a> Row<'a> {
     {
         Row {
             position,
-            poses: &[],
+            poses: None,
         }
     }
 }
@@ -44,8 +45,8 @@ impl<'a> Table<'a> {
         ensures { in_use result ≡ [] }
     {
         Table {
-            len: 0,
             rows: [Row::bare(Position::default()); 128],
+            len: 0,
         }
     }
 

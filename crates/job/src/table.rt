@@ -1,4 +1,4 @@
-ghost use Rattle.std.specs.Prelude.{◌≡◌, ◌≤◌, map};
+ghost use Rattle.std.specs.Prelude.{◌≡◌, ◌≤◌, [], map};
 ghost use Rattle.job.specs.Reading.{via, many, entry};
 ghost use Rattle.job.specs.Resolved.{waypoint, waypoints, origin};
 ghost use Rattle.job.specs.Rows.{row_v, in_use, entered};
@@ -18,7 +18,7 @@ impl<'a> Row<'a> {
         match field {
             Field::X(x) => self.position.x = x,
             Field::Y(y) => self.position.y = y,
-            Field::Poses(part) => self.poses = part.bytes,
+            Field::Poses(part) => self.poses = Some(part.bytes),
             Field::Note(_) => {}
         }
         self
@@ -32,16 +32,17 @@ fn row_of<'a>(fields: Record<'a>, before: Position) -> Row<'a>
     fields.fold(Row::bare(before), Row::with)
 }
 
-// Reads the records into rows, one for each.
-pub(crate) fn read_rows<'a>(records: &mut Records<'a>) -> Result<Table<'a>, Fault>
-    ensures { Reads (λ t. map row_v (in_use t)) (via (waypoints origin) (many records.old.left entry)) records.old.cursor records.new.cursor result }
+// Reads the records into the rows of a table that is empty, one for each. The table is filled where it lies: handed back by value it would be moved
+// several times over, which a small file feels.
+pub(crate) fn read_rows<'a>(records: &mut Records<'a>, table: &mut Table<'a>) -> Result<(), Fault>
+    requires empty { in_use table.old ≡ [] }
+    ensures { Reads (λ _. map row_v (in_use table.new)) (via (waypoints origin) (many records.old.left entry)) records.old.cursor records.new.cursor result }
 {
-    let mut table = Table::new();
     let mut before = Position::default();
     while let Some(fields) = records.next_record()? {
         let row = row_of(fields, before);
         table.push(row);
         before = row.position;
     }
-    Ok(table)
+    Ok(())
 }

@@ -1,5 +1,5 @@
 // The costs: travel, the worst step, and pairs.
-ghost use Rattle.std.specs.Prelude.{◌≡◌, refl};
+ghost use Rattle.std.specs.Prelude.{◌≡◌};
 ghost use Rattle.ladder.specs.Costs.{travel, worst, pair};
 ghost use Rattle.ladder.specs.Laws.{travel_lawful, travel_keeps, worst_lawful, pair_lawful};
 
@@ -20,11 +20,11 @@ impl Cost for Travel {
 
     const LETTER: u8 = b'T';
 
-    ghost LETTER = { 84 };
-
-    ghost lettered = { refl };
-
     ghost lawful = { travel_lawful };
+
+    fn letter_byte() -> u8 {
+        Self::LETTER
+    }
 
     fn zero() -> Travel {
         Travel { total: 0 }
@@ -41,7 +41,7 @@ impl Cost for Travel {
     }
 
     fn compare(self, other: Travel) -> Ordering {
-        self.cmp(&other)
+        Ord::cmp(&self, &other)
     }
 }
 
@@ -62,11 +62,11 @@ impl Cost for Worst {
 
     const LETTER: u8 = b'W';
 
-    ghost LETTER = { 87 };
-
-    ghost lettered = { refl };
-
     ghost lawful = { worst_lawful };
+
+    fn letter_byte() -> u8 {
+        Self::LETTER
+    }
 
     fn zero() -> Worst {
         Worst { turn: 0 }
@@ -94,18 +94,21 @@ pub struct Pair<A, B> {
     pub second: B,
 }
 
+// The letter of a pair. In a generic impl `Self::LETTER` has no known value, and this has.
+const PAIR: u8 = b'P';
+
 impl<A: Keeping, B: Cost> Cost for Pair<A, B> {
     type Price = (A::Price, B::Price);
 
     ghost rules = { pair A.Cost.rules B.Cost.rules };
 
-    const LETTER: u8 = b'P';
-
-    ghost LETTER = { 80 };
-
-    ghost lettered = { refl };
+    const LETTER: u8 = PAIR;
 
     ghost lawful = { pair_lawful A.Cost.rules B.Cost.rules A.Cost.lawful A.Keeping.keeps B.Cost.lawful };
+
+    fn letter_byte() -> u8 {
+        PAIR
+    }
 
     fn zero() -> Pair<A, B> {
         Pair {

@@ -1,5 +1,5 @@
 // What a cost is, and what it owes.
-ghost use Rattle.std.specs.Prelude.{◌≡◌, ℕ};
+ghost use Rattle.std.specs.Prelude.{◌≡◌};
 ghost use Rattle.ladder.specs.Rules.{Rules, Lawful, Keeps};
 
 use crate::poses::Turns;
@@ -14,14 +14,10 @@ pub trait Cost: Copy {
     // The letter that stands for the cost in print.
     const LETTER: u8;
 
-    ghost LETTER: { ℕ };
-
-    // `LETTER` as a call. Its name stays for whoever calls it.
+    // `LETTER`, as contracts name it: `rules.letter`. A cost gives both itself: a constant that the trait ties to its rules by a law would ask for a number and a
+    // proof more of each cost.
     fn letter_byte() -> u8
-        ensures { result ≡ rules.letter }
-    {
-        Self::LETTER
-    }
+        ensures { result ≡ rules.letter };
 
     // The cost of a track of one rung.
     fn zero() -> Self
@@ -40,8 +36,6 @@ pub trait Cost: Copy {
         ensures { result ≡ rules.compare self other };
 
     ghost lawful: { Lawful rules };
-
-    ghost lettered: { LETTER ≡ rules.letter };
 }
 
 // A cost of which the lower stays the lower when both are joined with one price.

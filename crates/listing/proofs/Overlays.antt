@@ -5,7 +5,7 @@ use Rattle.listing.specs.Text.{overlaid, Wrote}
 use Rattle.listing.specs.declared.text.Text.{Text}
 
 -- one text after another
-overlaid_append : (xs : List ℕ) (i : ℕ) (ps bs : List ℕ) → overlaid xs i (ps ++ bs) ≡ overlaid (overlaid xs i ps) (i + length ps) bs
+pub overlaid_append : (xs : List ℕ) (i : ℕ) (ps bs : List ℕ) → overlaid xs i (ps ++ bs) ≡ overlaid (overlaid xs i ps) (i + length ps) bs
 overlaid_append xs i [] bs = ap (λ j. overlaid xs j bs) (omega arith)
 overlaid_append xs i (a ∷ ps) bs = overlaid_append (set xs i a) (i + 1) ps bs ∙ ap (λ j. overlaid (overlaid (set xs i a) (i + 1) ps) j bs) (omega arith)
 

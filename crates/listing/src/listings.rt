@@ -34,6 +34,16 @@ fn add_all<C: Printed, S: Source>(
     Ok(())
 }
 
+// Adds them with the poses by which the file's arm reaches. A function for each source, so that a listing makes place for the one that it asks alone.
+fn add_reached<C: Printed>(resolver: &mut Resolver<C>, file: &[u8], n: u16) -> Result<(), Refusal> {
+    add_all(resolver, &mut Armed::new(file), n)
+}
+
+// Adds them with the file's pose lists.
+fn add_listed<C: Printed>(resolver: &mut Resolver<C>, file: &[u8], n: u16) -> Result<(), Refusal> {
+    add_all(resolver, &mut Tabled::new(file), n)
+}
+
 // A line for each track of the list, up to the refusal that ends it; `steps` has a place for each rung.
 fn list_tracks<C: Printed>(
     resolver: &mut Resolver<C>,
@@ -64,7 +74,11 @@ fn list_file<C: Printed>(
     tables: LentTables<C>,
     text: &mut Text,
 ) -> Result<Infallible, Ending> {
-    let job = job::read(file)?;
+    // not `?`, which makes place for a second job
+    let job = match job::read(file) {
+        Ok(job) => job,
+        Err(fault) => return Err(Ending::from(fault)),
+    };
     let setup = Setup {
         limits: job.limits(),
         rung_limit: RUNGS,
@@ -72,9 +86,9 @@ fn list_file<C: Printed>(
     };
     let mut resolver = Resolver::open(setup, tables);
     if job.arm().is_some() {
-        add_all(&mut resolver, &mut Armed::new(file), job.len())?;
+        add_reached(&mut resolver, file, job.len())?;
     } else {
-        add_all(&mut resolver, &mut Tabled::new(file), job.len())?;
+        add_listed(&mut resolver, file, job.len())?;
     }
     Ok(list_closed(&mut resolver, text)?)
 }

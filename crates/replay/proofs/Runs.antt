@@ -19,7 +19,7 @@ use Rattle.replay.specs.declared.calls.Reply.TheVariants.{Counted}
 use Rattle.replay.specs.Calls.{Recorded, told, places, all_places, named, event, events, Made}
 
 -- parts of lists
-take_front : {X : Type 0} (n : ℕ) (xs ys : List X) → n ≤ length xs → take n (take n xs ++ ys) ≡ take n xs
+pub take_front : {X : Type 0} (n : ℕ) (xs ys : List X) → n ≤ length xs → take n (take n xs ++ ys) ≡ take n xs
 take_front n xs ys h = take_at (take n xs) ys n (length-take-le n xs h)
 
 drop_front : {X : Type 0} (n : ℕ) (xs ys : List X) → n ≤ length xs → drop n (take n xs ++ ys) ≡ ys
@@ -33,10 +33,10 @@ places_append [] c = omega arith
 places_append (x ∷ cs) c = ap (λ i. places x + i) (places_append cs c) ∙ (let z : places x + (all_places cs + places c) ≡ places x + all_places cs + places c = omega arith in z)
 
 -- where a part of a list reaches to its end, so does what is put in its place
-tail_put : {X : Type 0} (n : ℕ) (xs ys : List X) → put_mid n (length xs - n) xs ys ≡ take n xs ++ ys
+pub tail_put : {X : Type 0} (n : ℕ) (xs ys : List X) → put_mid n (length xs - n) xs ys ≡ take n xs ++ ys
 tail_put n xs ys = ap (λ zs. take n xs ++ (ys ++ zs)) (drop_all (length xs - n) (drop n xs) (omega (arith, length-drop n xs))) ∙ ap (λ zs. take n xs ++ zs) (append-nil ys)
 
-tail_is : {X : Type 0} (n : ℕ) (xs : List X) → take (length xs - n) (drop n xs) ≡ drop n xs
+pub tail_is : {X : Type 0} (n : ℕ) (xs : List X) → take (length xs - n) (drop n xs) ≡ drop n xs
 tail_is n xs = take_all (length xs - n) (drop n xs) (omega (arith, length-drop n xs))
 
 module _ {C P : Type 0} (r : Rules C P) (ms : List (ℕ → Rung)) (fs : List Filter) where

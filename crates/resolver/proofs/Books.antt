@@ -47,7 +47,7 @@ module _ {C P : Type 0} (c : Rules C P) (laws : Lawful c) (k m : Core C) (kept :
       λ i. record { limits = kept.limits i; rung_limit = kept.rung_limit i; ration = kept.ration i; rungs = rs i; closed = kept.closed i; taken = t i }
 
   -- the list is at its end
-  next_none : k.closed ≡ true → k.rungs ≤ length out → k.taken < k.ration → ladder_of c m ≡ ladder_of c k → Ends c k out after m.taken → record { answer = refused 10; output = after; book = book m } ≡ nexting c (book k) out
+  pub next_none : k.closed ≡ true → k.rungs ≤ length out → k.taken < k.ration → ladder_of c m ≡ ladder_of c k → Ends c k out after m.taken → record { answer = refused 10; output = after; book = book m } ≡ nexting c (book k) out
   next_none o h r lad e =
       (λ i. record { answer = refused 10; output = e.output i; book = book_after k.taken lad e.counts i })
       ∙ nexting_refused c (book k) (tracks_of c k.limits (book k).rungs) out 10 (next_ended c (book k) (tracks_of c k.limits (book k).rungs) out o (omega (arith, h, many k)) r (omega (arith, e.all, ap length list_is)))
@@ -59,7 +59,7 @@ module _ {C P : Type 0} (c : Rules C P) (laws : Lawful c) (k m : Core C) (kept :
       let a = All-get_or (Admissible k.limits (ladder_of c k)) (list_of c k) k.taken [] h (list c laws k.limits (bounded k) (ladder_of c k) few).only in
       length_steps (ladder_of c k) (get_or (list_of c k) k.taken []) a.numbered ∙ length_ladder (tables_of c k) k.rungs
 
-  next_one : (x : Taken C) → k.closed ≡ true → k.rungs ≤ length out → k.taken < k.ration → ladder_of c m ≡ ladder_of c k → Gives c k out after m.taken x → record { answer = given x.number x.cost; output = after; book = book m } ≡ nexting c (book k) out
+  pub next_one : (x : Taken C) → k.closed ≡ true → k.rungs ≤ length out → k.taken < k.ration → ladder_of c m ≡ ladder_of c k → Gives c k out after m.taken x → record { answer = given x.number x.cost; output = after; book = book m } ≡ nexting c (book k) out
   next_one x o h r lad g =
       let ts = tracks_of c k.limits (book k).rungs in
       let there : k.taken < length ts = omega (arith, g.exists, ap length list_is) in

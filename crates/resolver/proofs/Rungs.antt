@@ -5,7 +5,7 @@ use Rattle.enumeration.specs.declared.records.Extent.{Extent}
 use Rattle.resolver.specs.declared.tables.Core.{Core}
 use Rattle.resolver.specs.Standing.{ladder_in, book}
 
-length_ladder : (ss : List Station) (es : List Extent) (r : ℕ) → length (ladder_in ss es r) ≡ r
+pub length_ladder : (ss : List Station) (es : List Extent) (r : ℕ) → length (ladder_in ss es r) ≡ r
 unfolding ladder_in
 length_ladder ss es zero = refl
 length_ladder ss es (suc r) = ap suc (length_ladder ss es r)

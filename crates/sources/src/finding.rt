@@ -1,6 +1,8 @@
 // How an arm's source finds its poses.
-ghost use Rattle.std.specs.Prelude.{◌≡◌};
-ghost use Rattle.sources.specs.Files.{armed, reached_by, OffersFor};
+ghost use Rattle.std.specs.Prelude.{◌≡◌, ℕ};
+ghost use Rattle.std.specs.Option.{option_map};
+ghost use Rattle.job.specs.Jobs.{view};
+ghost use Rattle.sources.specs.Files.{armed, arm_in, place_in, reached_by, Offered, OffersFor};
 ghost use Rattle.sources.specs.Meant.{meant};
 ghost use Rattle.sources.specs.Pages.{Shows, Covers};
 
@@ -9,7 +11,16 @@ use crate::asking::Source;
 use crate::files::opened;
 use crate::pages::Page;
 use crate::targets::Target;
+use job::Job;
 use ladder::poses::Pose;
+
+// The source of a job, with nothing remembered.
+fn unasked<'a>(job: Option<Job<'a>>) -> Armed<'a>
+    ensures means { option_map view result.job ≡ option_map view job.entry }
+    ensures offers { (w : ℕ) → Offered (arm_in (option_map view job.entry)) (place_in (option_map view job.entry) w) (meant result w) }
+{
+    Armed { job, memory: None }
+}
 
 impl<'a> Armed<'a> {
     // The source of a job file, which may be any bytes. The file is read here, and not again.
@@ -17,10 +28,7 @@ impl<'a> Armed<'a> {
         ensures means { meant result ≡ armed file.now }
         ensures offers { OffersFor file.now (meant result) }
     {
-        Armed {
-            job: opened(file),
-            memory: None,
-        }
+        unasked(opened(file))
     }
 
     // What the job's arm is to reach for a waypoint; None without an arm or a position.

@@ -1,7 +1,6 @@
 // A cost of its own, made outside the crate of the costs: turns of the shoulder, which carries the whole arm, count three times.
 #![tactic(auto)]
 
-ghost use Rattle.std.specs.Prelude.{refl};
 ghost use Rattle.weighted.specs.Weighing.{weighing};
 ghost use Rattle.weighted.specs.Weighs.{weighing_lawful, weighing_keeps};
 
@@ -25,11 +24,11 @@ impl Cost for Weighted {
 
     const LETTER: u8 = b'S';
 
-    ghost LETTER = { 83 };
-
-    ghost lettered = { refl };
-
     ghost lawful = { weighing_lawful };
+
+    fn letter_byte() -> u8 {
+        Self::LETTER
+    }
 
     fn zero() -> Weighted {
         Weighted { total: 0 }

@@ -7,7 +7,7 @@ use Rattle.resolver.proofs.calls.copy_poses.Goals as goal
 use Rattle.resolver.proofs.calls.copy_poses.Goals.{in-Some, in_default}
 
 -- one place more is copied
-copy_more : {X : Type 0} (xs ms : List X) (j : ℕ) (p : X) → take j xs ≡ take j ms → slice_get ms j ≡ Some p → j < length xs → take (j + 1) (set xs j p) ≡ take (j + 1) ms
+pub copy_more : {X : Type 0} (xs ms : List X) (j : ℕ) (p : X) → take j xs ≡ take j ms → slice_get ms j ≡ Some p → j < length xs → take (j + 1) (set xs j p) ≡ take (j + 1) ms
 copy_more xs ms j p e at h =
     take_more_set xs j p h ∙ ap (λ ys. ys ++ (p ∷ [])) e ∙ ap (λ y. take j ms ++ (y ∷ [])) (sym (get_or_from_slice_get ms j p p at)) ∙ sym (take_more ms j p (slice_get_within ms j p at))
 

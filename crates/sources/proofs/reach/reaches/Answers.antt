@@ -6,7 +6,7 @@ use Rattle.sources.specs.Reach.{near}
 use Rattle.sources.proofs.reach.reaches.Goals as goal
 
 -- the casts on the way into a test of nearness change nothing, and p and q are p' and q'
-near_cast : (a : Arm) (p q p' q' x : ℤ) → SFits w32 p → SFits w32 q → SFits w16 x → p ≡ p' → q ≡ q'
+pub near_cast : (a : Arm) (p q p' q' x : ℤ) → SFits w32 p → SFits w32 q → SFits w16 x → p ≡ p' → q ≡ q'
     → near a (to_z w32 (of_z w32 p)) (to_z w32 (of_z w32 q)) (to_z w16 (of_z w16 x)) ≡ near a p' q' x
 near_cast a p q p' q' x p_fits q_fits x_fits e f = simp to_z-of_z (simp (e, f) refl)
 

@@ -10,7 +10,7 @@ use Rattle.resolver.specs.Tables.{tables_of, station_at, track_at}
 use Rattle.resolver.proofs.tables.Core.candidate.Goals as goal
 
 -- a candidate made from what is read
-candidate_read : {C P : Type 0} (c : Rules C P) (t : Tables C) (l : Limits) (p v i : ℕ) (e : Ranked C) (from to : Station) → e ≡ t.track p i → from ≡ t.station p e.pose.0 → to ≡ t.station (suc p) v → extended c l from.pose to.pose e (record { 0 = i }) ≡ candidate_at c t l p v i
+pub candidate_read : {C P : Type 0} (c : Rules C P) (t : Tables C) (l : Limits) (p v i : ℕ) (e : Ranked C) (from to : Station) → e ≡ t.track p i → from ≡ t.station p e.pose.0 → to ≡ t.station (suc p) v → extended c l from.pose to.pose e (record { 0 = i }) ≡ candidate_at c t l p v i
 candidate_read {C} c t l p v i e from to track station target =
     ap (λ (s : Station). extended c l s.pose to.pose e (record { 0 = i })) (station ∙ ap (λ (y : Ranked C). t.station p y.pose.0) track)
     ∙ ap (λ (s : Station). extended c l (t.station p (t.track p i).pose.0).pose s.pose e (record { 0 = i })) target
